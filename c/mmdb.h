@@ -35,6 +35,9 @@ extern int mmdb_verify_records(const char *filename);
 extern void mmdb_lookup_many(const MMDB_s *mmdb, const struct sockaddr *const *addresses, size_t count,
                              MMDB_lookup_result_s *results, int *errors);
 
+/* The version of this library, as "0.1.0". MMDB_lib_version says which libmaxminddb's interface it has. */
+extern const char *mmdb_lib_version(void);
+
 #ifdef __cplusplus
 }
 #endif

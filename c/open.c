@@ -14,7 +14,10 @@
 static int map_descriptor(int fd, const uint8_t **bytes, size_t *len) {
     struct stat s;
     if (fstat(fd, &s)) return MMDB_FILE_OPEN_ERROR;
-    if (s.st_size < 0 || (uint64_t)s.st_size > UINT32_MAX) return MMDB_OUT_OF_MEMORY_ERROR;
+    if (s.st_size < 0 || (uint64_t)s.st_size > UINT32_MAX) {
+        errno = EFBIG;
+        return MMDB_IO_ERROR;
+    }
     void *p = mmap(NULL, (size_t)s.st_size, PROT_READ, MAP_SHARED, fd, 0);
     if (p == MAP_FAILED) return errno == ENOMEM ? MMDB_OUT_OF_MEMORY_ERROR : MMDB_IO_ERROR;
     *bytes = p;
@@ -140,3 +143,5 @@ void MMDB_close(MMDB_s *const m) {
 }
 
 const char *MMDB_lib_version(void) { return "1.7.1"; }
+
+const char *mmdb_lib_version(void) { return "0.1.0"; }

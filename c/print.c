@@ -93,7 +93,7 @@ const char *MMDB_strerror(int error_code) {
     case MMDB_FILE_OPEN_ERROR: return "the file can't be opened";
     case MMDB_CORRUPT_SEARCH_TREE_ERROR: return "the search tree leads outside the data section";
     case MMDB_INVALID_METADATA_ERROR: return "the file has no metadata of a MaxMind DB, or they are not valid";
-    case MMDB_IO_ERROR: return "the file can't be read";
+    case MMDB_IO_ERROR: return "the file can't be read, or has 4 GiB or more";
     case MMDB_OUT_OF_MEMORY_ERROR: return "out of memory";
     case MMDB_UNKNOWN_DATABASE_FORMAT_ERROR: return "the version of the file's format, or its record size, is not known";
     case MMDB_INVALID_DATA_ERROR: return "the data section has bytes that are no valid value";

@@ -8,9 +8,10 @@ two networks of IPv4, of which the upper one has the text "x". The last line cou
 is another one.
 """
 import ctypes
+import errno
 import sys
 
-FINE, CORRUPT_TREE, INVALID_METADATA, UNKNOWN_FORMAT, INVALID_DATA = 0, 2, 3, 6, 7
+FINE, CORRUPT_TREE, INVALID_METADATA, IO_ERROR, UNKNOWN_FORMAT, INVALID_DATA = 0, 2, 3, 4, 6, 7
 NODE, SEPARATOR, DATA, MARKER = b"\x00\x00\x01\x00\x00\x11", bytes(16), b"\x41x", b"\xab\xcd\xefMaxMind.com"
 METADATA = {
     b"binary_format_major_version": b"\xa1\x02",
@@ -27,6 +28,7 @@ METADATA = {
 
 def metadata_of(**changes):
     fields = {**METADATA, **{name.encode(): value for name, value in changes.items()}}
+    fields = {name: value for name, value in fields.items() if value is not None}
     pairs = [bytes([0x40 | len(it)]) + it if len(it) < 29 else bytes([0x5D, len(it) - 29]) + it for it in fields]
     return bytes([0xE0 | len(fields)]) + b"".join(name + value for name, value in zip(pairs, fields.values()))
 
@@ -42,8 +44,11 @@ LADDER = b"".join(bytes([0, 0, it + 1]) * 2 for it in range(4))
 ROWS = [
     ("nothing", file_of(), FINE, FINE),
     ("the marker", file_of(marker=b"MaxMind"), INVALID_METADATA, INVALID_METADATA),
-    ("all metadata", file_of()[:-161], INVALID_DATA, INVALID_DATA),
-    ("the end of the metadata", file_of()[:-1], INVALID_DATA, INVALID_DATA),
+    ("all metadata", file_of()[:-161], INVALID_METADATA, INVALID_METADATA),
+    ("the end of the metadata", file_of()[:-1], INVALID_METADATA, INVALID_METADATA),
+    ("a field of the metadata", file_of(node_count=None), INVALID_METADATA, INVALID_METADATA),
+    ("a text of the metadata that is not UTF-8", file_of(database_type=b"\x41\xff"), INVALID_METADATA, INVALID_METADATA),
+    ("a description that is not UTF-8", file_of(description=b"\xe1\x42en\x41\xff"), INVALID_METADATA, INVALID_METADATA),
     ("a field's type", file_of(node_count=b"\x41x"), INVALID_METADATA, INVALID_METADATA),
     ("the format's version", file_of(binary_format_major_version=b"\xa1\x03"), UNKNOWN_FORMAT, UNKNOWN_FORMAT),
     ("the version and the size of records", file_of(binary_format_major_version=b"\xa0", record_size=b"\xa1\x10"), UNKNOWN_FORMAT, UNKNOWN_FORMAT),
@@ -68,7 +73,7 @@ ROWS = [
 
 
 def main():
-    library, folder = ctypes.CDLL(sys.argv[1]), sys.argv[2]
+    library, folder = ctypes.CDLL(sys.argv[1], use_errno=True), sys.argv[2]
     wrong = 0
     for what, content, *wanted in ROWS:
         name = f"{folder}/changed.mmdb".encode()
@@ -83,7 +88,18 @@ def main():
         if got != [*wanted, wanted[-1]][:3]:
             print(f"{what}: {got} instead of {wanted}")
             wrong += 1
-    print(f"{len(ROWS)} files, {wrong} wrong")
+    # a file that is too large, by its length alone
+    with open(name, "wb") as file:
+        file.truncate(1 << 32)
+    got = [library.MMDB_open(name, 0, database), ctypes.get_errno(), library.mmdb_verify(name)]
+    if got != [IO_ERROR, errno.EFBIG, IO_ERROR]:
+        print(f"a file of 4 GiB: {got}")
+        wrong += 1
+    library.mmdb_lib_version.restype = ctypes.c_char_p
+    if library.mmdb_lib_version() != b"0.1.0":
+        print("another version")
+        wrong += 1
+    print(f"{len(ROWS) + 1} files, {wrong} wrong")
     return 1 if wrong else 0
 
 

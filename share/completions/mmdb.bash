@@ -9,24 +9,27 @@ _mmdb_table() {
   case $1 in
     show) options='--field --lines --help -h' valued='--field' files=1 ;;
     info) options='--json --fields --help -h' valued='' files=9 ;;
-    enrich) options='--column --delimiter --field --network --header --json --into --nulls --hop --anywhere --exact --no-quotes --strict --quiet --reload --help -h' valued='--column --delimiter --field --json --into --hop' files=9 ;;
-    export) options='--field --format --where --where-not --where-contains --where-has --where-above --where-below --also --except --ipv4 --ipv6 --name --table --family --jump --value --allow-empty --allow-missing --help -h' valued='--field --format --where --where-not --where-contains --where-has --where-above --where-below --also --except --name --table --family --jump --value' files=1 ;;
-    diff) options='--field --format --where --where-not --where-contains --where-has --where-above --where-below --also --except --ipv4 --ipv6 --name --table --family --allow-empty --allow-missing --exit-code --help -h' valued='--field --format --where --where-not --where-contains --where-has --where-above --where-below --also --except --name --table --family' files=2 ;;
+    enrich) options='--column --delimiter --field --network --header --json --into --nulls --hop --anywhere --exact --no-quotes --strict --quiet --reload --output --help -h' valued='--column --delimiter --field --json --into --hop --output' files=9 ;;
+    export) options='--field --format --where --where-not --where-contains --where-has --where-above --where-below --also --except --ipv4 --ipv6 --name --table --family --jump --value --allow-empty --allow-missing --output --help -h' valued='--field --format --where --where-not --where-contains --where-has --where-above --where-below --also --except --name --table --family --jump --value --output' files=1 ;;
+    diff) options='--field --format --where --where-not --where-contains --where-has --where-above --where-below --also --except --ipv4 --ipv6 --name --table --family --allow-empty --allow-missing --exit-code --output --help -h' valued='--field --format --where --where-not --where-contains --where-has --where-above --where-below --also --except --name --table --family --output' files=2 ;;
     verify) options='--whole --database-type --newer-than --max-age --json --quiet --help -h' valued='--database-type --newer-than --max-age' files=9 ;;
-    install) options='--max-change --dry-run --help -h' valued='--max-change' files=2 ;;
+    install) options='--max-change --database-type --allow-older --allow-broken --dry-run --quiet --help -h' valued='--max-change --database-type' files=2 ;;
     build) options='--from --format --network-column --range-columns --type --types-like --equal --database-type --description --language --build-epoch --ip-version --record-size --reserved --skip-bad --check --help -h' valued='--from --format --network-column --range-columns --type --types-like --equal --database-type --description --language --build-epoch --ip-version --record-size --reserved' files=1 ;;
     help) options='' valued='' files=0 ;;
   esac
   case $1$2 in
     enrich--hop) values='first last' ;;
+    enrich--output) values='FILES' ;;
     export--format) values='jsonl csv cidr nft ipset iptables nginx haproxy pf' ;;
     export--also) values='FILES' ;;
     export--except) values='FILES' ;;
     export--family) values='inet ip ip6 bridge netdev' ;;
+    export--output) values='FILES' ;;
     diff--format) values='jsonl csv cidr nft ipset' ;;
     diff--also) values='FILES' ;;
     diff--except) values='FILES' ;;
     diff--family) values='inet ip ip6 bridge netdev' ;;
+    diff--output) values='FILES' ;;
     verify--newer-than) values='FILES' ;;
     build--from) values='FILES' ;;
     build--format) values='jsonl csv tsv' ;;

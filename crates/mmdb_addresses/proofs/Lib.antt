@@ -6,4 +6,6 @@ mod OctetLaws
 mod OpeningLaws
 mod PortLaws
 mod RunLaws
+mod WordsLaws
+mod LastLaws
 mod WordLaws

@@ -71,6 +71,13 @@ pub none_between : (text : List ℕ) (goes_on : Bool) (end at : ℕ) → at ≡ 
 none_between text goes_on end at is before k a l stands =
     ⊎_elim (λ (early : k < end). before k a early stands) (λ (late : end ≤ k). off_run text end k late (omega arith) stands.begins.here) (cases_lt k end)
 
+-- the same of those alone that are after that end
+pub none_off : (text : List ℕ) (goes_on : Bool) (end at : ℕ) → at ≡ end + prefix_len (has OffRun) (drop end text) → (k : ℕ) (a : IpAddr) → end ≤ k → k < at → StandsAt text goes_on k a → ⊥
+none_off text goes_on end at is k a late l stands = off_run text end k late (omega arith) stands.begins.here
+
+pub none_beyond : (text : List ℕ) (goes_on : Bool) (k : ℕ) (a : IpAddr) → length text ≤ k → StandsAt text goes_on k a → ⊥
+none_beyond text goes_on k a over stands = not_beyond text k over stands.begins.here
+
 pub none_at_all : (text : List ℕ) (goes_on : Bool) (at : ℕ) → length text ≤ at → ((k : ℕ) (a : IpAddr) → k < at → StandsAt text goes_on k a → ⊥) → (k : ℕ) (a : IpAddr) → StandsAt text goes_on k a → ⊥
 none_at_all text goes_on at over before k a stands =
     ⊎_elim (λ (early : k < at). before k a early stands) (λ (late : at ≤ k). not_beyond text k (omega arith) stands.begins.here) (cases_lt k at)
@@ -131,3 +138,8 @@ none_inside text goes_on at end is before here k a l stands =
     (λ (same : k ≤ at). here a (subst (λ i. StandsAt text goes_on i a) (omega arith) stands))
     (cases_lt at k))
     (cases_lt k at)
+
+pub none_further : (text : List ℕ) (goes_on : Bool) (at end : ℕ) → end ≡ at + prefix_len (has InRun) (drop at text) → (k : ℕ) (a : IpAddr) → at < k → k < end → StandsAt text goes_on k a → ⊥
+none_further text goes_on at end is k a further l stands =
+    let on : is_run_byte (get_or text (k - 1) 0) ≡ true = in_run text at (k - 1) (omega arith) (omega arith) in
+    let off : is_run_byte (get_or text (k - 1) 0) ≡ false = stands.begins.first (omega arith) in cc

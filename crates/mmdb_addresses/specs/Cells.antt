@@ -11,6 +11,10 @@ first_word cell = take_while (λ x. not (ends_word x)) (drop (prefix_len is_blan
 abbrev pub last_hop : List ℕ → List ℕ
 last_hop cell = drop (length cell - suffix_len (λ x. not (x == 44)) cell) cell
 
+-- a text without the word that its end cuts off
+abbrev pub whole_words : List ℕ → List ℕ
+whole_words text = take (length text - suffix_len (λ x. not (ends_word x)) text) text
+
 -- a word without a double quote that it begins with, and without one that it ends with
 abbrev pub without_opening : List ℕ → List ℕ
 without_opening word = if get_or word 0 0 == 34 then drop 1 word else word

@@ -7,5 +7,6 @@ pub mod Words
 pub mod Spelling
 -- What only contracts of private functions and proofs name.
 pub mod Kinds
+pub mod Last
 pub mod Octets
 pub mod Openings

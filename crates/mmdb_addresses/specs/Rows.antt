@@ -1,4 +1,4 @@
--- The first address anywhere in a text.
+-- The first address anywhere in a text, and the last one.
 use Rattle.std.specs.Prelude.{◌≡◌, ◌⊎◌, ◌≢◌, ℕ, ◌+◌, ◌-◌, ◌<◌, List, [], Bool, true, false, Option, Some, None, ◌==◌, ◌&&◌, not, nat_lt, take_while, length, take, drop, get_or}
 use Rattle.std.specs.Net.Grammar.{IsIpText}
 use Rattle.std.specs.declared.net.ip_addr.IpAddr.{IpAddr}
@@ -52,3 +52,15 @@ pub record StandsFirst (text : List ℕ) (goes_on : Bool) (address : IpAddr) : T
 abbrev pub FindsFirst : List ℕ → Bool → Option IpAddr → Type 0
 FindsFirst text goes_on (Some address) = StandsFirst text goes_on address
 FindsFirst text goes_on None = (at : ℕ) (address : IpAddr) → ¬ StandsAt text goes_on at address
+
+-- It is the last one that is in the text.
+pub record StandsLast (text : List ℕ) (address : IpAddr) : Type 0 where
+  pub at : ℕ
+  pub here : StandsAt text false at address
+  pub last : (later : ℕ) (other : IpAddr) → at < later → ¬ StandsAt text false later other
+
+-- the last address that is in a text, or none where none is; none too where the text goes on, since its end is not seen
+abbrev pub FindsLast : List ℕ → Bool → Option IpAddr → Type 0
+FindsLast text true address = address ≡ None
+FindsLast text false (Some address) = StandsLast text address
+FindsLast text false None = (at : ℕ) (address : IpAddr) → ¬ StandsAt text false at address

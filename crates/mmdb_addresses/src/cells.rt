@@ -1,10 +1,10 @@
 //! The address in a cell.
 ghost use Rattle.std.specs.Prelude.{◌≡◌, IfSome};
 ghost use Rattle.mmdb_addresses.specs.Addresses.{Finds, IsAddressIn};
-ghost use Rattle.mmdb_addresses.specs.Cells.{first_word as spec_first_word, last_hop as spec_last_hop, unquoted as spec_unquoted, without_opening as spec_without_opening, without_closing as spec_without_closing};
+ghost use Rattle.mmdb_addresses.specs.Cells.{first_word as spec_first_word, last_hop as spec_last_hop, unquoted as spec_unquoted, without_opening as spec_without_opening, without_closing as spec_without_closing, whole_words as spec_whole_words};
 ghost use Rattle.mmdb_addresses.specs.declared.readings.Reading.TheVariants.{First, Last};
 
-use crate::bytes::{AddressKind, end_of};
+use crate::bytes::{AddressKind, end_of, ends_word};
 use crate::openings::{Opening, opening_of};
 use crate::words::word_address;
 use std::net::{IpAddr, Ipv6Addr};
@@ -27,6 +27,20 @@ fn last_hop(cell: &[u8]) -> &[u8]
         at -= 1;
     }
     &cell[at..]
+}
+
+/// A text without the word that its end cuts off.
+pub fn whole_words(text: &[u8]) -> &[u8]
+    ensures { result.now ≡ spec_whole_words text.now }
+{
+    let len = text.len();
+    for cut in 0..len {
+        let at = len - cut;
+        if ends_word(text[at - 1]) {
+            return &text[..at];
+        }
+    }
+    &text[..0]
 }
 
 // A word without a double quote that it begins with.

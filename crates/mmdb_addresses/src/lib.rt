@@ -12,5 +12,6 @@ mod words;
 
 pub use address_text::AddressText;
 pub use addresses::read_address;
+pub use cells::whole_words;
 pub use readings::{Reading, address_in, address_of};
-pub use rows::address_anywhere;
+pub use rows::{address_anywhere, last_address_anywhere};

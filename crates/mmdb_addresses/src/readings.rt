@@ -6,7 +6,7 @@ ghost use Rattle.mmdb_addresses.specs.Addresses.{Finds, IsAddressIn, ReadsAddres
 use crate::addresses::{dotted_front, read_address};
 use crate::bytes::ends_word;
 use crate::cells::{first_address, last_address};
-use crate::rows::address_anywhere;
+use crate::rows::{address_anywhere, last_address_anywhere};
 use std::net::IpAddr;
 
 /// Where in a text an address is looked for.
@@ -20,6 +20,8 @@ pub enum Reading {
     Last,
     /// It is anywhere; the first one counts.
     Anywhere,
+    /// It is anywhere; the last one counts.
+    LastAnywhere,
 }
 
 // The address of IPv4 that is the first word of a text, or none.
@@ -47,6 +49,7 @@ fn any_address(reading: Reading, text: &[u8]) -> Option<IpAddr>
         Reading::First => first_address(text),
         Reading::Last => last_address(text),
         Reading::Anywhere => address_anywhere(text, false),
+        Reading::LastAnywhere => last_address_anywhere(text, false),
     }
 }
 

@@ -1,7 +1,8 @@
-//! The first address anywhere in a text.
-ghost use Rattle.std.specs.Prelude.{◌≡◌, ◌+◌, ◌<◌, ◌≤◌, Bool, Decides, length, take, drop, slice_range};
+//! The first address anywhere in a text, and the last one.
+ghost use Rattle.std.specs.Prelude.{◌≡◌, ◌+◌, ◌<◌, ◌≤◌, Bool, false, Decides, length, take, drop, slice_range};
 ghost use Rattle.mmdb_addresses.specs.Addresses.{Finds};
-ghost use Rattle.mmdb_addresses.specs.Rows.{BeginsRun, FindsFirst, IsClosed, IsRun, StandsAt, is_behind_slash as spec_is_behind_slash, run_at, behind_run};
+ghost use Rattle.mmdb_addresses.specs.Last.{later_of};
+ghost use Rattle.mmdb_addresses.specs.Rows.{BeginsRun, FindsFirst, FindsLast, IsClosed, IsRun, StandsAt, is_behind_slash as spec_is_behind_slash, run_at, behind_run};
 
 use crate::bytes::{AddressKind, end_of, is_blank};
 use crate::words::plain_address;
@@ -69,4 +70,42 @@ pub fn address_anywhere(text: &[u8], goes_on: bool) -> Option<IpAddr>
         }
     }
     None
+}
+
+// An address that was found, or else the last one before it.
+fn later(found: Option<IpAddr>, last: Option<IpAddr>) -> Option<IpAddr>
+    ensures { result ≡ later_of found last }
+{
+    match found {
+        Some(address) => Some(address),
+        None => last,
+    }
+}
+
+// The last address anywhere in a text.
+fn last_address_in(text: &[u8]) -> Option<IpAddr>
+    ensures { FindsLast text.now false result }
+{
+    let mut end = 0;
+    let mut last = None;
+    while end < text.len() {
+        let at = end_of(AddressKind::OffRun, text, end);
+        if at >= text.len() {
+            return last;
+        }
+        end = end_of(AddressKind::InRun, text, at);
+        last = later(address_at(text, false, at, end), last);
+    }
+    last
+}
+
+/// The last address anywhere in a text. Of one that goes on after what is seen of it that is not known.
+#[inline(never)]
+pub fn last_address_anywhere(text: &[u8], goes_on: bool) -> Option<IpAddr>
+    ensures { FindsLast text.now goes_on result }
+{
+    if goes_on {
+        return None;
+    }
+    last_address_in(text)
 }

@@ -11,8 +11,10 @@ cc=country.iso_code, in an object with its address. A path has dots between its
 steps; an integer is an index, negative from the end; a key in double quotes
 may hold dots, digits or =. Of several files each address gets an object with
 what each of them has, by its database type; with --field the value is that of
-the first file that has one. The status is 0 if all were found, 6 if one was
-not, 1 for an error, 2 for a usage error.";
+the first file that has one. A path that meets a value of another type leads
+nowhere. ::ffff:1.2.3.4 is asked as it is written, and as 1.2.3.4 where it has no
+record. The status is 0 if all were found, 6 if one was not, 1 for an error, 2 for
+a usage error.";
 
 const INFO_EXAMPLE: &str = "Examples:
   mmdb info GeoLite2-City.mmdb --json
@@ -33,14 +35,17 @@ The status is 0 where all files are whole and all their records can be read, els
 1. In a whole file every lookup succeeds and every record is a finite tree of
 valid text, but one may still not be read: with a key that is no text, or that a
 pointer to a pointer leads to, or with more than 65,536 values or 2 MiB of texts.
-How many can't be read, the first network and why is said. With --whole files are
-only to be whole. With --json each file is an object with its path, ok, type,
-epoch, nodes, unreadable_records and error: null where it is not known, or none.";
+How many can't be read, the first network and why is said. A value nested more
+than 128 levels is more than verify takes. A file that was built more than a day
+ahead fails --max-age. With --whole files are only to be whole. With --json each
+file is an object with its path, ok, type, epoch, nodes, unreadable_records and
+error: null where it is not known, or none.";
 
 const ENRICH_EXAMPLE: &str = "Examples:
   tail -F nginx/access.log | mmdb enrich GeoLite2-City.mmdb --field country.iso_code
   mmdb enrich GeoLite2-City.mmdb --field country.iso_code < apache2/access.log
-  journalctl -fu ssh | mmdb enrich GeoLite2-City.mmdb --anywhere --field country.iso_code
+  journalctl -fu ssh -o cat | grep --line-buffered -E '^(Failed password|Invalid user) ' |
+      mmdb enrich GeoLite2-City.mmdb --anywhere --hop last --field country.iso_code
   mmdb enrich GeoLite2-City.mmdb --json client.ip --field country.iso_code < log.jsonl
   mmdb enrich GeoLite2-City.mmdb --delimiter , --header --column ip --field city < log.csv
   mmdb enrich GeoLite2-City.mmdb GeoLite2-ASN.mmdb --network --field country.iso_code \\
@@ -50,11 +55,17 @@ Columns stand between tabs, and each line comes out before the next is waited
 for. The address is the first word of its column, alone, in brackets or quotes,
 with a port or a zone: 1.2.3.4:443, [2001:db8::1]:443, fe80::1%eth0. A blank, a
 comma or a semicolon ends it. A line without an address, or whose address has no
-record, gets empty columns. How many lines had a record, none, no address, or an
-error is said on standard error at the end. A text stands as it is, unless it
-has control characters; any other value is JSON. With --delimiter , the input is
-CSV: cells may be in quotes, and added cells are where they need them, unless with
---no-quotes. The address is looked for in the first 65,536 bytes of a line.
+record, gets empty columns, an empty line none. How many lines had a record, none,
+no address, or an error is said on standard error at the end. A text stands as it
+is, unless it has control characters; any other value is JSON. With --delimiter ,
+the input is CSV: cells may be in quotes, and added cells are where they need them,
+with control characters as JSON writes them. With --no-quotes the delimiter in an
+added cell is so too. The address is looked for in the first 65,536 bytes of a line.
+With --header a line with fewer cells than the first gets the delimiters that it
+lacks; lines with more are counted.
+
+With --anywhere --hop last the address is the last one in the line. Where a client
+chooses what ends a line, as in others of sshd than those above, it may name any.
 
 Of several files a field has the value of the first that has one at its path, so
 that a file of one's own before others overlays them. With --network the first
@@ -62,9 +73,14 @@ column is the network of the address, the smallest that it is in in one of them.
 
 A field has the name that NAME=PATH gives it, or its path's text. With --json a
 line that is an object gets an object of the fields as its last member, named by
---into; without a name a field has its path's last step for one. It gets the whole
-record where no field is asked for, of one file and without --network. All other
-lines stay as they are.";
+--into; without a name a field has its path's last step for one. Where no field is
+asked for the member is the whole record, or of several files an object of each
+one's, by the names that show has; without a record nothing is added, or null with
+--nulls. An object has at most 1 MiB. All other lines stay as they are.
+
+With --strict the status is 1 where one line got no answer: without an address, no
+object, too long, with the member already, with an error; and where something was
+warned of. An address without a record is an answer.";
 
 const EXPORT_EXAMPLE: &str = "Examples:
   mmdb export GeoLite2-Country.mmdb 81.2.69.0/24 --field country.iso_code
@@ -77,31 +93,43 @@ record, or with the network and the value at each path; or, as csv, rows of
 cells below a header row. Each value has the name that NAME=PATH gives it, or
 its path's text. In a cell a text stands as it is, and any other value
 as JSON. Where a path leads nowhere a cell is empty, and a value null. A network
-whose record or field can't be read has no line: it is named on standard error,
-and the status is 1 at the end.
+whose record or field can't be read has no line: ten are named on standard error,
+all are counted at the end, and the status is 1. So is a path that no record has
+named, with the one that may be meant, and the status stays.
 
 Of several files each network is one in which all of them have one answer, as large
 as it can be: with each file's record by its database type, null where it has none,
 or with the values of the first that has one at the path. So are conditions.
 
 With --where only networks whose record has this value at the path are written:
-a text as it stands, any other scalar as its JSON. PATH=@FILE has a value a line,
-and @@ stands for a @ that a value begins with. --where-contains wants a text
-that has this text in it, and --where-has any value. Several values of one option
+a text as it stands, a number as JSON may write it (7, 7.0, 70e-1), any other
+scalar as its JSON. PATH=@FILE has a value a line, without the blanks around it, or
+in double quotes as JSON writes it; a # at the start of a line or after a blank
+begins a comment. @@ stands for a @ that a value begins with. --where-contains
+wants a text that has this text in it, and --where-has any value. Several values of one option
 at one path are alternatives, options and paths must all fit, and --where-not
 leaves out. --where-above and --where-below want a number that is greater or less
 than one as JSON writes it (100, -3.5, 1e3), and than each where there are several.
 
 All other formats write no records but the fewest blocks that have the addresses
 of the networks, and those in the files of --also, but none in those of --except:
-a network, an address or FIRST-LAST a line, and comments behind #. They are one a
-line as cidr and pf, two sets NAME_ipv4 and NAME_ipv6 as a file for nft -f or for
-ipset restore, a chain NAME for iptables-restore --noflush and ip6tables-restore,
-a geo block of $NAME for nginx, or a map of haproxy. A list has no address
-outside RANGE but those of --also. Where it would have no network, or no network
-has a value of a condition, nothing is written, so that a wrong value empties no
-set, and the status is 1. A row of one file names a network as it is, even if it
-is wider than RANGE; a row of several ends where RANGE does.";
+a network, an address or FIRST-LAST a line, and comments behind # or ;. They are
+one a line as cidr and pf, two sets NAME_ipv4 and NAME_ipv6 as a file for nft -f
+or for ipset restore, a chain NAME for iptables-restore --noflush and
+ip6tables-restore, a geo block of $NAME for nginx, or a map of haproxy. A list has
+no address outside RANGE but those of --also. A list that lacks a network which
+can't be read is loaded by none of these programs; nor is one that was cut before
+its last lines, but by haproxy and pf. Of cidr the status speaks alone.
+
+Where a list would have no network, or no network has a value of a condition,
+nothing is written, so that a wrong value empties no set, and the status is 1. A
+list of cidr empties no set: an empty one is written, a value that no network has
+is said, and the status is 0, but 1 where no network has any value of a @FILE. A
+row names of a network that is wider than RANGE just RANGE.
+
+RANGE within ::ffff:0:0/96 is one of IPv4, which is said, unless a file has
+networks of its own there. So is a network in the files of --also and --except;
+the latter also takes away what a file has under ::ffff.";
 
 const DIFF_EXAMPLE: &str = "Examples:
   mmdb diff old/GeoLite2-Country.mmdb GeoLite2-Country.mmdb --field country.iso_code
@@ -112,12 +140,14 @@ Each line is a block of addresses, as large as it can be, in which both files
 have one answer each and the answers differ: with the old value and the new one,
 null where there is none. They come ascending. Files of which one has only IPv4
 are compared on IPv4. How many networks and IPv4 addresses were added, removed
-and changed is said on standard error at the end. A network that can't be read is
-named there too, and the status is 1 then.
+and changed is said on standard error at the end. Of the networks that can't be
+read ten are named there and all are counted, each as its own file has it, and
+the status is 1 then. RANGE within ::ffff:0:0/96 is read as by export.
 
 The formats cidr, nft and ipset write what changes in the list that export would
 write, with the same options: -BLOCK and +BLOCK, or what takes the blocks out of
-the sets that were filled from OLD, and puts new ones in.";
+the sets that were filled from OLD, and puts new ones in. That of nft is done
+whole or not at all; that of ipset passes over what is there or gone already.";
 
 const BUILD_EXAMPLE: &str = "Examples:
   mmdb export GeoLite2-City.mmdb |
@@ -135,20 +165,29 @@ of equal networks the last one counts. JSON does not show all types: without
 --type and --types-like a text is a string, a number with a point or an exponent
 a double, and any other the least of uint32, uint64, uint128 and int32 that has
 it. Cells are strings. The types: string, bytes (in base64), bool, int32, uint16,
-uint32, uint64, uint128, double, float.
+uint32, uint64, uint128, double, float. A path of --type, or of a value of
+--types-like, that no row has is an error. Paths that got values of several
+types are said at the end.
 
 Up to 20 lines that are wrong are named on standard error, and OUT stays as it
-was. OUT takes its name when it is whole, and only what is no file or a MaxMind
-DB file is replaced. SOURCE_DATE_EPOCH serves where there is no --build-epoch.";
+was. A quote that is not closed ends the run. OUT takes its name when it is whole,
+and only what is no file or a MaxMind DB file is replaced; its mode, group and
+owner are kept as far as the system lets it. SOURCE_DATE_EPOCH serves where there
+is no --build-epoch.";
 
 const INSTALL_EXAMPLE: &str = "Example:
-  mmdb install download/GeoLite2-City.mmdb /var/lib/GeoIP/GeoLite2-City.mmdb
+  mmdb install download/GeoLite2-City.mmdb /var/lib/GeoIP/GeoLite2-City.mmdb \\
+      --database-type '*City' --max-change 20 | grep -q ': replaced$' && reload
 
 NEW takes the place of DEST only where it is whole and all its records can be
-read, its database type and IP version are those of DEST, and it is not older.
-DEST is the old file or the new one, whole, whatever fails; who has it open keeps
-the old one. Its mode is kept, of a symbolic link the target is replaced, and a
-missing DEST is made. Any reason against it is one line, and the status is 1.";
+read, its database type and IP version are those of DEST, it is not older, and
+it was not built more than a day ahead. DEST is the old file or the new one,
+whole, whatever fails; who has it open keeps the old one. Its mode, group and
+owner are kept as far as the system lets it, of a symbolic link the target is
+replaced, and a missing DEST is made. Another run of install or build for DEST
+is waited for, up to ten seconds. With status 0 standard output says DEST:
+replaced or DEST: unchanged. Any reason against it is one line, and the status
+is 1.";
 
 /// An argument of a command: its name, what its value is called, its help, and what else there is to say.
 #[derive(Clone, Copy)]
@@ -312,6 +351,12 @@ const ALLOW_MISSING: Argument = Argument::Flag(
     "Write a list even where no network has a value of a condition",
 );
 
+const OUTPUT: Argument = Argument::Value(
+    "output",
+    "FILE",
+    "Write to this file, which is replaced when all is done, and else stays as it was",
+);
+
 /// What says of columns, which lines of JSON have not.
 const COLUMNS: &[&str] = &["column", "delimiter", "header"];
 
@@ -397,12 +442,12 @@ const READING: &[Usage] = &[
             Argument::Choice(
                 "hop",
                 "WHICH",
-                "Of addresses with commas between them, as in X-Forwarded-For, this one",
+                "Of addresses with commas between them, as in X-Forwarded-For, or anywhere, this one",
                 &["first", "last"],
             ),
             Argument::Flag(
                 "anywhere",
-                "The first address that stands anywhere in the line",
+                "The address may stand anywhere in the line; the first, unless with --hop last",
             ),
             Argument::Flag(
                 "exact",
@@ -412,12 +457,16 @@ const READING: &[Usage] = &[
                 "no-quotes",
                 "With --delimiter: quotes mean nothing, and each line is a row",
             ),
-            Argument::Flag("strict", "Status 1 where there is anything to warn of"),
+            Argument::Flag(
+                "strict",
+                "Status 1 where a line got no answer, or something was warned of",
+            ),
             Argument::Flag("quiet", "No notes on standard error"),
             Argument::Flag(
                 "reload",
                 "Use a database that is replaced meanwhile, within a second",
             ),
+            OUTPUT,
         ],
     },
 ];
@@ -431,7 +480,7 @@ const EXPORTING: &[Usage] = &[Usage {
         FILE,
         Argument::More(
             "RANGE",
-            "Only networks inside this one, or the one around it; and more files",
+            "Only what networks have of this one; and more files",
         ),
         FIELDS,
         Argument::Choice(
@@ -467,6 +516,7 @@ const EXPORTING: &[Usage] = &[Usage {
         ),
         ALLOW_EMPTY,
         ALLOW_MISSING,
+        OUTPUT,
     ],
 }];
 
@@ -502,6 +552,7 @@ const COMPARING: &[Usage] = &[Usage {
         ALLOW_EMPTY,
         ALLOW_MISSING,
         Argument::Flag("exit-code", "Status 7 where something differs"),
+        OUTPUT,
     ],
 }];
 
@@ -545,9 +596,17 @@ const MAKING: &[Usage] = &[
             Argument::Value(
                 "max-change",
                 "PERCENT",
-                "No more of the IPv4 addresses than this may have changed",
+                "No more of the IPv4 addresses, or of the IPv6 /48s, than this may have changed",
             ),
+            Argument::Value(
+                "database-type",
+                "TYPE",
+                "The type that NEW has to have; a * at an end, and nowhere else, is any text",
+            ),
+            Argument::Flag("allow-older", "NEW may be older than DEST"),
+            Argument::Flag("allow-broken", "DEST may be empty or no MaxMind DB file"),
             Argument::Flag("dry-run", "Only say what would be done"),
+            Argument::Flag("quiet", "No output and no notes but what could not be kept"),
         ],
     },
     Usage {
@@ -577,7 +636,7 @@ const MAKING: &[Usage] = &[
             Argument::Values(
                 "type",
                 "PATH=TYPE",
-                "The type of the values at a path; may be repeated",
+                "The type of the values at a path, which a row has to have; may be repeated",
             ),
             Argument::Value(
                 "types-like",

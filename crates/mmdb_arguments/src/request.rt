@@ -64,6 +64,8 @@ pub struct EnrichArguments<'a> {
     pub quiet: bool,
     /// Whether files that are replaced meanwhile are opened anew.
     pub reload: bool,
+    /// The file that gets what would go to standard output.
+    pub output: Option<&'a str>,
 }
 
 /// The formats of an export.
@@ -142,6 +144,8 @@ pub struct ExportArguments<'a> {
     pub format: Format,
     pub conditions: ConditionTexts<'a>,
     pub list: ListArguments<'a>,
+    /// The file that gets what would go to standard output.
+    pub output: Option<&'a str>,
 }
 
 /// The arguments of `diff`.
@@ -154,7 +158,11 @@ pub struct DiffArguments<'a> {
     /// Texts that should be paths, or names with paths.
     pub fields: Vec<&'a str>,
     pub is_csv: bool,
+    pub ipv4: bool,
+    pub ipv6: bool,
     pub exit_code: bool,
+    /// The file that gets what would go to standard output.
+    pub output: Option<&'a str>,
 }
 
 /// The arguments of `diff` where what changes in a list of networks is asked for.
@@ -233,7 +241,14 @@ pub struct InstallArguments<'a> {
     pub dest: &'a str,
     /// A text that should be a number of percent.
     pub max_change: Option<&'a str>,
+    /// The type that the new file has to have, with a `*` at an end for any text there.
+    pub database_type: Option<&'a str>,
+    /// Whether the new file may be older.
+    pub allow_older: bool,
+    /// Whether what is there may be no database that can be read.
+    pub allow_broken: bool,
     pub dry_run: bool,
+    pub quiet: bool,
 }
 
 /// A command with its arguments.
@@ -257,6 +272,19 @@ pub enum Request<'a> {
     Build(BuildArguments<'a>),
     /// Whether files are whole.
     Verify(VerifyArguments<'a>),
+}
+
+impl<'a> Request<'a> {
+    /// The file that gets what would go to standard output, if there is one.
+    pub fn output(&self) -> Option<&'a str> {
+        match self {
+            Request::Enrich(arguments) => arguments.output,
+            Request::Export(arguments) => arguments.output,
+            Request::Diff(arguments) => arguments.output,
+            Request::ListDiff(arguments) => arguments.newer.output,
+            _ => None,
+        }
+    }
 }
 
 // The values of an argument.
@@ -322,6 +350,7 @@ fn enrich<'a>(alloc: Global, matches: &ArgMatches<'a>) -> Result<Request<'a>, No
         strict: matches.get_flag("strict"),
         quiet: matches.get_flag("quiet"),
         reload: matches.get_flag("reload"),
+        output: matches.get_str("output"),
     }))
 }
 
@@ -398,6 +427,7 @@ fn export_arguments<'a>(
         format: format_of(matches),
         conditions,
         list,
+        output: matches.get_str("output"),
     })
 }
 
@@ -419,8 +449,6 @@ fn list_argument(arguments: &ExportArguments<'_>) -> Option<&'static str> {
         ("--where-below", !conditions.below.is_empty()),
         ("--also", !list.also.is_empty()),
         ("--except", !list.except.is_empty()),
-        ("--ipv4", list.ipv4),
-        ("--ipv6", list.ipv6),
         ("--name", list.name.is_some()),
         ("--table", list.table.is_some()),
         ("--family", list.family.is_some()),
@@ -459,7 +487,10 @@ fn diff<'a>(alloc: Global, matches: &ArgMatches<'a>) -> Result<Request<'a>, NoRe
         range: newer.range,
         fields,
         is_csv,
+        ipv4: newer.list.ipv4,
+        ipv6: newer.list.ipv6,
         exit_code,
+        output: newer.output,
     }))
 }
 
@@ -509,7 +540,11 @@ fn install<'a>(matches: &ArgMatches<'a>) -> Request<'a> {
         new: matches.get_str("NEW").unwrap_or(""),
         dest: matches.get_str("DEST").unwrap_or(""),
         max_change: matches.get_str("max-change"),
+        database_type: matches.get_str("database-type"),
+        allow_older: matches.get_flag("allow-older"),
+        allow_broken: matches.get_flag("allow-broken"),
         dry_run: matches.get_flag("dry-run"),
+        quiet: matches.get_flag("quiet"),
     })
 }
 

@@ -24,4 +24,4 @@ pub use kind::{BlockKind, Kinds};
 pub use list::{BlocksError, List, Taken};
 pub use listed::listed_blocks;
 pub use ranges::{BlockRange, Ranges, RangesError};
-pub use syntax::{Action, Syntax, is_list_value, is_set_name, is_variable_name};
+pub use syntax::{Syntax, is_list_value, is_set_name, is_table_name, is_variable_name};

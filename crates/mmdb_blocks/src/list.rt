@@ -3,7 +3,7 @@ use crate::block::Block;
 use crate::joiner::Joiner;
 use crate::kind::{BlockKind, Kinds};
 use crate::ranges::RangesError;
-use crate::syntax::{Action, Syntax};
+use crate::syntax::{Action, Filled, Syntax};
 use mmdb_net::{IpNetwork, IpNetworkError};
 use std::alloc::{AllocError, Global};
 use std::io::{self, Write};
@@ -51,6 +51,9 @@ pub enum Taken {
     Not,
 }
 
+/// Of how many kinds networks are written at most: each is taken out, and put in.
+const MOST_FILLED: usize = 4;
+
 /// A list of networks, of which IPv4 and IPv6 networks are joined apart. Their blocks are pushed in ascending order, those of
 /// a kind together.
 #[derive(Drop)]
@@ -66,6 +69,8 @@ pub struct List<'a> {
     has_written: bool,
     /// Whether what comes before all networks was written.
     has_begun: bool,
+    /// Of which kinds networks were written, and what is done with them.
+    filled: Vec<Filled>,
     /// What a network's line is put together in. Its room is enough, so that no network takes memory.
     line: Vec<u8>,
 }
@@ -101,9 +106,17 @@ impl<'a> List<'a> {
         List::of_action(alloc, syntax, Action::Fill, kinds)
     }
 
-    /// A list without networks, which says what is done with those that come. Where they are taken out of sets or put into
-    /// them, nothing comes before them.
-    pub fn of_action(
+    /// A list of changes without networks, which are to be taken out of sets. Nothing comes before them.
+    pub fn of_changes(
+        alloc: Global,
+        syntax: Syntax<'a>,
+        kinds: Kinds,
+    ) -> Result<List<'a>, AllocError> {
+        List::of_action(alloc, syntax, Action::Remove, kinds)
+    }
+
+    // A list without networks, which says what is done with those that come.
+    fn of_action(
         alloc: Global,
         syntax: Syntax<'a>,
         action: Action,
@@ -118,6 +131,7 @@ impl<'a> List<'a> {
             kind: None,
             has_written: false,
             has_begun: action != Action::Fill,
+            filled: Vec::with_capacity(alloc, MOST_FILLED)?,
             line: Vec::with_capacity(alloc, syntax.most_bytes())?,
         })
     }
@@ -148,6 +162,16 @@ impl<'a> List<'a> {
         put(text.as_bytes(), out)
     }
 
+    // Notes that a network of a kind is written.
+    fn note_filled(&mut self, kind: BlockKind) -> Result<(), AllocError> {
+        if !self.has_written {
+            let action = self.action;
+            self.filled.push(Filled { action, kind })?;
+        }
+        self.has_written = true;
+        Ok(())
+    }
+
     // Writes a network.
     fn put_network<O: Write>(
         &mut self,
@@ -164,7 +188,7 @@ impl<'a> List<'a> {
             network,
             &mut self.line,
         )?;
-        self.has_written = true;
+        self.note_filled(kind)?;
         put(self.line.as_slice(), out)
     }
 
@@ -260,14 +284,32 @@ impl<'a> List<'a> {
 
     /// Writes what is left of the networks.
     pub fn finish<O: Write>(&mut self, out: &mut O) -> Result<(), BlocksError> {
-        match self.kind {
+        match self.kind.take() {
             Some(kind) => self.end_kind(kind, out),
             None => Ok(()),
         }
     }
 
-    /// Writes what comes after all networks.
+    /// Writes what is left of the networks that are taken out of sets: those that come next are put in.
+    pub fn go_on_to_add<O: Write>(&mut self, out: &mut O) -> Result<(), BlocksError> {
+        self.finish(out)?;
+        self.action = Action::Add;
+        Ok(())
+    }
+
+    /// Writes what comes after all networks of a list that is whole: without it no program loads it, but for one network a
+    /// line. Of changes without networks that is nothing.
     pub fn end<O: Write>(&mut self, out: &mut O) -> Result<(), BlocksError> {
-        put(self.syntax.ending().as_bytes(), out)
+        if self.action != Action::Fill && self.filled.is_empty() {
+            return Ok(());
+        }
+        let text = self.syntax.ending(self.alloc, self.kinds, self.action, self.filled.as_slice())?;
+        put(text.as_bytes(), out)
+    }
+
+    /// Writes what comes after the networks of a list that is not whole, in place of `end`: no program loads it, but for one
+    /// network a line.
+    pub fn break_off<O: Write>(&mut self, out: &mut O) -> Result<(), BlocksError> {
+        put(self.syntax.breaking().as_bytes(), out)
     }
 }

@@ -3,27 +3,37 @@ use crate::kind::{BlockKind, Kinds};
 use mmdb_net::IpNetwork;
 use std::alloc::{AllocError, Global};
 
-/// The most bytes of a set's name: ipset takes 31, and the kind's name follows it.
+/// The most bytes of the name of a chain's target, a table or a variable.
 const MOST_NAME: usize = 26;
+
+/// The most bytes of the beginning of a set's name: ipset takes 31, and `_ipv4.new` follows it.
+const MOST_SET_NAME: usize = 22;
 
 /// The most bytes of a value.
 const MOST_VALUE: usize = 64;
 
 /// Above the bytes of a network's line without a set's name.
-const LINE_BYTES: usize = 64;
+const LINE_BYTES: usize = 80;
+
+/// Both kinds of addresses, in the order in which lists have them.
+const KINDS: [BlockKind; 2] = [BlockKind::Ipv4, BlockKind::Ipv6];
+
+/// A line that neither haproxy nor pf takes for an address, nor for a name that it might look up.
+const NO_ADDRESS: &str = "this-list/is-not-whole\n";
 
 /// How a list of networks is written.
 #[derive(Clone, Copy)]
 pub enum Syntax<'a> {
     /// One network a line.
     Cidr,
-    /// A file for `nft -f`: two named sets in a table.
+    /// A file for `nft -f`: two named sets in a table. The elements are in definitions, and all commands in the last line.
     Nft {
         family: &'a str,
         table: &'a str,
         name: &'a str,
     },
-    /// A file for `ipset restore`: two sets of `hash:net`.
+    /// A file for `ipset restore`: two sets of `hash:net`. New ones are filled beside them, and take their place in the last
+    /// lines.
     Ipset {
         name: &'a str,
     },
@@ -68,9 +78,14 @@ fn is_name(name: &str, most: usize, others: &[u8]) -> bool {
     bytes.iter().all(|byte| byte.is_ascii_alphanumeric() || others.contains(byte))
 }
 
-/// Whether a text may be the beginning of a set's name, for nft and for ipset, or the name of a chain: at most 26 letters,
-/// digits, `_`, `-` and `.` of ASCII, the first of them a letter or `_`.
+/// Whether a text may be the beginning of a set's name, for nft and for ipset: at most 22 letters, digits, `_`, `-` and `.` of
+/// ASCII, the first of them a letter or `_`.
 pub fn is_set_name(name: &str) -> bool {
+    is_name(name, MOST_SET_NAME, b"_-.")
+}
+
+/// Whether a text may be the name of a table of nft, or of a target of iptables: as that of a set, and at most 26.
+pub fn is_table_name(name: &str) -> bool {
     is_name(name, MOST_NAME, b"_-.")
 }
 
@@ -135,11 +150,12 @@ fn push_member(
     network: IpNetwork,
     line: &mut Vec<u8>,
 ) -> Result<(), AllocError> {
-    push_text(action.of_ipset(), line)?;
+    let (command, before, behind) = action.of_ipset();
+    push_text(command, line)?;
     push_text(name, line)?;
     push_text("_", line)?;
     push_text(suffix(kind), line)?;
-    push_between(" ", network, "\n", line)
+    push_between(before, network, behind, line)
 }
 
 // Adds the rule of a network for a chain.
@@ -170,7 +186,7 @@ fn push_with_value(
     push_text(behind, line)
 }
 
-// The lines that make a set for nft, if it is not there, and empty it.
+// The commands that make a set for nft, if it is not there, and empty it.
 fn nft_set(
     alloc: Global,
     family: &str,
@@ -180,20 +196,56 @@ fn nft_set(
 ) -> Result<String, AllocError> {
     let set = suffix(kind);
     format!(in alloc;
-        "add set {family} {table} {name}_{set} {{ type {set}_addr; flags interval; }}\nflush set {family} {table} {name}_{set}\n"
+        "add set {family} {table} {name}_{set} {{ type {set}_addr; flags interval; }}; flush set {family} {table} {name}_{set}"
     )
 }
 
-// The lines that make a set for ipset, if it is not there, and empty it.
-fn ipset_set(alloc: Global, name: &str, kind: BlockKind) -> Result<String, AllocError> {
+// The lines that make a set for ipset, if it is not there, and an empty one beside it, also where one was left there.
+fn ipset_new(alloc: Global, name: &str, kind: BlockKind) -> Result<String, AllocError> {
     let set = suffix(kind);
     let family = match kind {
         BlockKind::Ipv4 => "inet",
         BlockKind::Ipv6 => "inet6",
     };
+    let made: String = format!(in alloc; "hash:net family {family} maxelem 4294967295")?;
     format!(in alloc;
-        "create {name}_{set} hash:net family {family} maxelem 4294967295 -exist\nflush {name}_{set}\n"
+        "create {name}_{set} {made} -exist\ncreate {name}_{set}.new {made} -exist\ndestroy {name}_{set}.new\ncreate {name}_{set}.new {made}\n"
     )
+}
+
+// The line that puts the new set of ipset in the place of the old one.
+fn ipset_swap(alloc: Global, name: &str, kind: BlockKind) -> Result<String, AllocError> {
+    let set = suffix(kind);
+    format!(in alloc; "swap {name}_{set}.new {name}_{set}\n")
+}
+
+// The line that takes the old set of ipset away, which has the name of the new one then.
+fn ipset_destroy(alloc: Global, name: &str, kind: BlockKind) -> Result<String, AllocError> {
+    let set = suffix(kind);
+    format!(in alloc; "destroy {name}_{set}.new\n")
+}
+
+// The lines that put the new sets of ipset of the wanted kinds in the place of the old ones, and take those away.
+fn ipset_swaps(alloc: Global, name: &str, kinds: Kinds) -> Result<String, AllocError> {
+    let mut text = String::new(alloc);
+    for kind in KINDS {
+        if kinds.has(kind) {
+            text.push_str(ipset_swap(alloc, name, kind)?.as_str())?;
+        }
+    }
+    for kind in KINDS {
+        if kinds.has(kind) {
+            text.push_str(ipset_destroy(alloc, name, kind)?.as_str())?;
+        }
+    }
+    Ok(text)
+}
+
+/// What a list has of networks, by which its last lines are made.
+#[derive(Clone, Copy)]
+pub(crate) struct Filled {
+    pub(crate) action: Action,
+    pub(crate) kind: BlockKind,
 }
 
 impl Action {
@@ -205,11 +257,22 @@ impl Action {
         }
     }
 
-    // What ipset does with a network.
-    fn of_ipset(self) -> &'static str {
+    // What follows the name of a set in that of the definition with its elements.
+    fn of_definition(self) -> &'static str {
         match self {
-            Action::Fill | Action::Add => "add ",
-            Action::Remove => "del ",
+            Action::Fill => "",
+            Action::Remove => "_removed",
+            Action::Add => "_added",
+        }
+    }
+
+    // What ipset does with a network, what follows the name of the set, and what follows the network. Where the set has or lacks
+    // the network already, a change goes on.
+    fn of_ipset(self) -> (&'static str, &'static str, &'static str) {
+        match self {
+            Action::Fill => ("add ", ".new ", "\n"),
+            Action::Add => ("add ", " ", " -exist\n"),
+            Action::Remove => ("del ", " ", " -exist\n"),
         }
     }
 
@@ -224,54 +287,87 @@ impl Action {
     }
 }
 
+// Adds a command to those of a line.
+fn push_command(command: &str, line: &mut String) -> Result<(), AllocError> {
+    if !line.is_empty() {
+        line.push_str("; ")?;
+    }
+    line.push_str(command)
+}
+
+// Adds what nft does with the elements of each definition of a kind.
+fn push_elements(
+    alloc: Global,
+    [family, table, name]: [&str; 3],
+    kind: BlockKind,
+    filled: &[Filled],
+    line: &mut String,
+) -> Result<(), AllocError> {
+    let set = suffix(kind);
+    for part in filled {
+        if part.kind == kind {
+            let (done, which) = (part.action.of_nft(), part.action.of_definition());
+            let command: String = format!(in alloc;
+                "{done} element {family} {table} {name}_{set} ${name}_{set}{which}"
+            )?;
+            push_command(command.as_str(), line)?;
+        }
+    }
+    Ok(())
+}
+
+// The line of all commands for nft: sets of the wanted kinds are made and emptied, where they are filled, and what is in
+// definitions is put in or taken out.
+fn nft_commands(
+    alloc: Global,
+    names: [&str; 3],
+    kinds: Kinds,
+    action: Action,
+    filled: &[Filled],
+) -> Result<String, AllocError> {
+    let [family, table, name] = names;
+    let mut line = String::new(alloc);
+    if action == Action::Fill {
+        let command: String = format!(in alloc; "add table {family} {table}")?;
+        push_command(command.as_str(), &mut line)?;
+    }
+    for kind in KINDS {
+        if action == Action::Fill && kinds.has(kind) {
+            let command = nft_set(alloc, family, table, name, kind)?;
+            push_command(command.as_str(), &mut line)?;
+        }
+        push_elements(alloc, names, kind, filled, &mut line)?;
+    }
+    line.push('\n')?;
+    Ok(line)
+}
+
 impl Syntax<'_> {
-    // What makes the set of a kind.
-    fn set(&self, alloc: Global, kind: BlockKind) -> Result<String, AllocError> {
+    // What comes before all sets and networks.
+    fn head(&self, alloc: Global) -> Result<String, AllocError> {
         match self {
-            Syntax::Nft {
-                family,
-                table,
-                name,
-            } => nft_set(alloc, *family, *table, *name, kind),
-            Syntax::Ipset { name } => ipset_set(alloc, *name, kind),
+            Syntax::Iptables { chain, .. } => format!(in alloc; "*filter\n:{chain} - [0:0]\n"),
+            Syntax::Nginx { variable, .. } => format!(in alloc; "geo ${variable} {{\n"),
             _ => Ok(String::new(alloc)),
         }
     }
 
-    // Adds what makes the set of a kind, where the kind is wanted.
-    fn push_set(
-        &self,
-        alloc: Global,
-        kind: BlockKind,
-        kinds: Kinds,
-        text: &mut String,
-    ) -> Result<(), AllocError> {
-        if !kinds.has(kind) {
-            return Ok(());
-        }
-        let set = self.set(alloc, kind)?;
-        text.push_str(set.as_str())
-    }
-
-    // What comes before all sets and networks.
-    fn head(&self, alloc: Global) -> Result<String, AllocError> {
+    // What comes before the networks of a set of ipset.
+    fn set(&self, alloc: Global, kind: BlockKind) -> Result<String, AllocError> {
         match self {
-            Syntax::Nft { family, table, .. } => {
-                format!(in alloc; "add table {family} {table}\n")
-            }
-            Syntax::Iptables { chain, .. } => format!(in alloc; "*filter\n:{chain} - [0:0]\n"),
-            Syntax::Nginx { variable, .. } => format!(in alloc; "geo ${variable} {{\n"),
-            Syntax::Cidr | Syntax::Ipset { .. } | Syntax::Haproxy { .. } | Syntax::Pf => {
-                Ok(String::new(alloc))
-            }
+            Syntax::Ipset { name } => ipset_new(alloc, *name, kind),
+            _ => Ok(String::new(alloc)),
         }
     }
 
-    /// What comes before all networks: it makes the sets of the wanted kinds.
+    /// What comes before all networks.
     pub(crate) fn beginning(&self, alloc: Global, kinds: Kinds) -> Result<String, AllocError> {
         let mut text = self.head(alloc)?;
-        self.push_set(alloc, BlockKind::Ipv4, kinds, &mut text)?;
-        self.push_set(alloc, BlockKind::Ipv6, kinds, &mut text)?;
+        for kind in KINDS {
+            if kinds.has(kind) {
+                text.push_str(self.set(alloc, kind)?.as_str())?;
+            }
+        }
         Ok(text)
     }
 
@@ -283,13 +379,9 @@ impl Syntax<'_> {
         action: Action,
     ) -> Result<String, AllocError> {
         match self {
-            Syntax::Nft {
-                family,
-                table,
-                name,
-            } => {
-                let (done, set) = (action.of_nft(), suffix(kind));
-                format!(in alloc; "{done} element {family} {table} {name}_{set} {{\n")
+            Syntax::Nft { name, .. } => {
+                let (set, which) = (suffix(kind), action.of_definition());
+                format!(in alloc; "define {name}_{set}{which} = {{\n")
             }
             _ => Ok(String::new(alloc)),
         }
@@ -303,11 +395,32 @@ impl Syntax<'_> {
         }
     }
 
-    /// What comes after all networks.
-    pub(crate) fn ending(&self) -> &'static str {
+    /// What comes after all networks of a list that is whole, and lets it be loaded. Networks of these kinds came.
+    pub(crate) fn ending(
+        &self,
+        alloc: Global,
+        kinds: Kinds,
+        action: Action,
+        filled: &[Filled],
+    ) -> Result<String, AllocError> {
         match self {
-            Syntax::Iptables { .. } => "COMMIT\n",
-            Syntax::Nginx { .. } => "}\n",
+            Syntax::Nft {
+                family,
+                table,
+                name,
+            } => nft_commands(alloc, [*family, *table, *name], kinds, action, filled),
+            Syntax::Iptables { .. } => String::from_str(alloc, "COMMIT\n"),
+            Syntax::Nginx { .. } => String::from_str(alloc, "}\n"),
+            Syntax::Ipset { name } if action == Action::Fill => ipset_swaps(alloc, *name, kinds),
+            _ => Ok(String::new(alloc)),
+        }
+    }
+
+    /// What comes after the networks of a list that is not whole, so that it is not loaded: of most what ends them is
+    /// missing.
+    pub(crate) fn breaking(&self) -> &'static str {
+        match self {
+            Syntax::Haproxy { .. } | Syntax::Pf => NO_ADDRESS,
             _ => "",
         }
     }

@@ -36,7 +36,7 @@ fn facts_of(layout: &FileLayout) -> Facts
 ///
 /// 0 exactly where the bytes are those of a database, unless out of memory, which is 5. Else the code says
 /// what is wrong: 2 the search tree, 3 the metadata, 6 the version of the format or the size of records,
-/// 7 the bytes of the metadata section. The IPv6 table of an IPv4 database is left as it is, and so is
+/// 7 a limit that the metadata pass. The IPv6 table of an IPv4 database is left as it is, and so is
 /// the IPv4 table where IPv4 begins on no node.
 #[unsafe(no_mangle)]
 pub extern "C" fn mmdb_c_open(

@@ -50,7 +50,7 @@ enum Cause {
     Memory,
     /// The version of the format or the size of records is none that is read.
     Format,
-    /// The metadata are missing, damaged or not supported.
+    /// The metadata are missing, damaged or not supported: also where a text of theirs is not UTF-8.
     Metadata,
     /// The search tree is damaged.
     Tree,
@@ -128,9 +128,21 @@ impl Cause {
                 message: Message::Made(_),
                 offset: None,
             } => Cause::of_file(alloc, file),
+            MaxMindDbError::InvalidDatabase {
+                offset: Some(offset),
+                ..
+            } if is_behind_marker(file, *offset) => Cause::Metadata,
             MaxMindDbError::Decoding { .. } => Cause::Metadata,
             _ => Cause::Data,
         }
+    }
+}
+
+// Whether an offset of a file is behind its last marker: one of the metadata.
+fn is_behind_marker(file: &[u8], offset: usize) -> bool {
+    match memmem::rfind(file, MARKER) {
+        Some(at) => offset > at,
+        None => false,
     }
 }
 

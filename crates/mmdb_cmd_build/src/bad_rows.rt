@@ -14,24 +14,24 @@ struct ShownRow {
     row: BadRow,
 }
 
-/// Rows that are not taken: how many there are, and the first of them.
+/// Rows that are not taken: how many lines they have, and the first of them.
 #[derive(Drop)]
 pub(crate) struct BadRows {
-    pub(crate) count: u64,
+    pub(crate) lines: u64,
     shown: Vec<ShownRow>,
 }
 
 impl BadRows {
     pub(crate) fn new(alloc: Global) -> BadRows {
         BadRows {
-            count: 0,
+            lines: 0,
             shown: Vec::new(alloc),
         }
     }
 
-    /// Notes that the row of a line is not taken.
-    pub(crate) fn add(&mut self, line: u64, row: BadRow) -> Result<(), AllocError> {
-        self.count = self.count.saturating_add(1);
+    /// Notes that the row of so many lines is not taken, the first of which is this one.
+    pub(crate) fn add(&mut self, line: u64, lines: u64, row: BadRow) -> Result<(), AllocError> {
+        self.lines = self.lines.saturating_add(lines);
         if self.shown.len() < MOST_SHOWN {
             self.shown.push(ShownRow { line, row })?;
         }

@@ -1,20 +1,21 @@
 //! Rows of cells below a header.
 use crate::columns::Columns;
 use crate::entry::{RowAddresses, RowEntry, Values};
-use crate::error::{InputError, Reason, named};
+use crate::error::{InputError, Reason, named, named_text};
 use crate::known::KnownTexts;
 use crate::networks::{address_of, network_of};
 use crate::plan::{MOST_COLUMNS, NamedPath, Plan, add_assembled, column_path, plan_of};
 use crate::range::AddressRange;
 use crate::scalars::{TextSource, text_value};
+use crate::spans::{PlaceSpans, span_of};
 use crate::types::Types;
 use bumpalo::Bump;
-use csv::{ByteRecord, ReaderBuilder};
+use csv::ByteRecord;
 use memchr::{memchr, memchr2};
 use mmdb_filter::{RowPosition, Rows};
 use mmdb_net::IpNetwork;
 use mmdb_value::Value;
-use std::alloc::Global;
+use std::alloc::{AllocError, Global};
 use std::net::IpAddr;
 
 /// A column of addresses: its cell, and its name.
@@ -69,7 +70,45 @@ fn check_quotes(rows: Rows, row: &[u8]) -> Result<(), Reason> {
     }
 }
 
-// Cuts the cells of a row of CSV, in place of others.
+// Cuts the cells of a row of CSV that has quotes, of which nothing is wrong.
+fn cut_quoted(
+    alloc: Global,
+    rows: Rows,
+    row: &[u8],
+    cells: &mut ByteRecord,
+) -> Result<(), AllocError> {
+    let mut cell = Vec::new(alloc);
+    let mut now = RowPosition::Cell;
+    for byte in row {
+        let next = now.after(rows, *byte);
+        // a quote that opens or ends a quoted text is none of it, but the second of two is
+        let is_text = match next {
+            RowPosition::Cell | RowPosition::Closing | RowPosition::Ended => false,
+            RowPosition::Quoted => now == RowPosition::Quoted || now == RowPosition::Closing,
+            RowPosition::Plain => true,
+        };
+        if is_text {
+            cell.push(*byte)?;
+        }
+        if next == RowPosition::Cell {
+            cells.push_field(&cell)?;
+            cell.clear();
+        }
+        now = next;
+    }
+    cells.push_field(&cell)?;
+    Ok(())
+}
+
+// Cuts the cells of a row that has no quotes.
+fn cut_plain(delimiter: u8, row: &[u8], cells: &mut ByteRecord) -> Result<(), AllocError> {
+    for cell in row.split(|byte| *byte == delimiter) {
+        cells.push_field(cell)?;
+    }
+    Ok(())
+}
+
+// Cuts the cells of a row of CSV.
 fn cut_csv(
     alloc: Global,
     delimiter: u8,
@@ -77,29 +116,19 @@ fn cut_csv(
     cells: &mut ByteRecord,
 ) -> Result<(), InputError> {
     let row = row.strip_suffix(b"\r").unwrap_or(row);
-    if memchr2(b'"', b'\r', row).is_some() {
-        check_quotes(Rows::Csv { delimiter }, row)?;
+    if memchr2(b'"', b'\r', row).is_none() {
+        return Ok(cut_plain(delimiter, row, cells)?);
     }
-    let mut builder = ReaderBuilder::new();
-    builder.has_headers(false).delimiter(delimiter);
-    let mut reader = builder.from_reader(alloc, row);
-    if reader.read_byte_record(cells).is_err() {
-        // of a first record, and of bytes at hand
-        return Err(InputError::Memory);
-    }
-    Ok(())
+    let rows = Rows::Csv { delimiter };
+    check_quotes(rows, row)?;
+    Ok(cut_quoted(alloc, rows, row, cells)?)
 }
 
 // Cuts the cells of a row, in place of others.
 fn cut(alloc: Global, rows: Rows, row: &[u8], cells: &mut ByteRecord) -> Result<(), InputError> {
     cells.clear();
     match rows {
-        Rows::Lines { delimiter } => {
-            for cell in row.split(|byte| *byte == delimiter) {
-                cells.push_field(cell)?;
-            }
-            Ok(())
-        }
+        Rows::Lines { delimiter } => Ok(cut_plain(delimiter, row, cells)?),
         Rows::Csv { delimiter } => cut_csv(alloc, delimiter, row, cells),
     }
 }
@@ -192,10 +221,12 @@ fn value_columns(
             continue;
         }
         if let Some(named) = left.next() {
+            let node = types.find(&named.path);
+            types.meet(node);
             columns.push(ValueColumn {
                 cell,
                 name: String::from_str(alloc, name_at(alloc, header, cell)?)?,
-                node: types.find(&named.path),
+                node,
             })?;
         }
     }
@@ -203,13 +234,23 @@ fn value_columns(
 }
 
 // The network of a cell.
-fn network_in(cells: &ByteRecord, cell: usize) -> Result<IpNetwork, Reason> {
-    network_of(text_at(cells, cell)?)
+fn network_in(
+    alloc: Global,
+    cells: &ByteRecord,
+    column: PlaceColumn<'_>,
+) -> Result<IpNetwork, InputError> {
+    let text = named(alloc, column.name, text_at(cells, column.cell))?;
+    named_text(alloc, column.name, text, network_of(text))
 }
 
 // The address of a cell.
-fn address_in(cells: &ByteRecord, cell: usize) -> Result<IpAddr, Reason> {
-    address_of(text_at(cells, cell)?)
+fn address_in(
+    alloc: Global,
+    cells: &ByteRecord,
+    column: PlaceColumn<'_>,
+) -> Result<IpAddr, InputError> {
+    let text = named(alloc, column.name, text_at(cells, column.cell))?;
+    named_text(alloc, column.name, text, address_of(text))
 }
 
 // The addresses of a row.
@@ -219,12 +260,12 @@ fn place_in(
     place: PlaceColumns<'_>,
 ) -> Result<RowAddresses, InputError> {
     match place {
-        PlaceColumns::Network(PlaceColumn { cell, name }) => {
-            Ok(RowAddresses::Network(named(alloc, name, network_in(cells, cell))?))
+        PlaceColumns::Network(network) => {
+            Ok(RowAddresses::Network(network_in(alloc, cells, network)?))
         }
         PlaceColumns::Range(first, last) => {
-            let from = named(alloc, first.name, address_in(cells, first.cell))?;
-            let to = named(alloc, last.name, address_in(cells, last.cell))?;
+            let from = address_in(alloc, cells, first)?;
+            let to = address_in(alloc, cells, last)?;
             let range = named(alloc, first.name, AddressRange::new(from, to))?;
             Ok(RowAddresses::Range(range))
         }
@@ -244,7 +285,10 @@ fn value_in<'a>(
         return Ok(None);
     }
     let kinds = types.kinds(column.node);
-    Ok(Some(text_value(alloc, text, TextSource::Cell, kinds, arena)?))
+    match text_value(alloc, text, TextSource::Cell, kinds, arena) {
+        Ok(value) => Ok(Some(value)),
+        Err(error) => Err(error.of_text(alloc, text)),
+    }
 }
 
 // The values of a row's cells.
@@ -290,6 +334,8 @@ pub struct Cells<'t> {
     columns: Vec<ValueColumn>,
     plan: Plan,
     cells: ByteRecord,
+    /// A row without the cells of its addresses.
+    others: Vec<u8>,
     known: KnownTexts,
 }
 
@@ -319,31 +365,32 @@ impl<'t> Cells<'t> {
             columns,
             plan,
             cells: ByteRecord::new(alloc),
+            others: Vec::new(alloc),
             known: KnownTexts::new(alloc),
         })
     }
 
-    // The network that a row begins with, and what comes after its cell.
-    fn split<'l>(&self, row: &'l [u8]) -> Option<(&'l [u8], &'l [u8])> {
-        let PlaceColumns::Network(PlaceColumn { cell: 0, .. }) = self.place else {
-            return None;
-        };
-        let delimiter = match self.rows {
-            Rows::Lines { delimiter } | Rows::Csv { delimiter } => delimiter,
-        };
-        let end = memchr(delimiter, row)?;
-        row.split_at_checked(end)
+    // Where the addresses of a row are.
+    fn spans_in(&self, row: &[u8]) -> Option<PlaceSpans> {
+        Some(match self.place {
+            PlaceColumns::Network(network) => {
+                PlaceSpans::Network(span_of(self.rows, row, network.cell)?)
+            }
+            PlaceColumns::Range(first, last) => PlaceSpans::Range(
+                span_of(self.rows, row, first.cell)?,
+                span_of(self.rows, row, last.cell)?,
+            ),
+        })
     }
 
-    // What a row says that differs from an earlier one in its network alone.
-    fn known_entry(&self, row: &[u8]) -> Option<RowEntry> {
-        let (network, rest) = self.split(row)?;
-        let value = self.known.get(rest)?;
-        let network = network_of(str::from_utf8(network).ok()?).ok()?;
-        Some(RowEntry {
-            place: RowAddresses::Network(network),
-            value,
-        })
+    // What a row says that differs from an earlier one in its addresses alone.
+    fn known_entry(&mut self, row: &[u8]) -> Option<RowEntry> {
+        let spans = self.spans_in(row)?;
+        let value = self
+            .known
+            .get(spans.others_in(row, &mut self.others).ok()?)?;
+        let place = spans.place_in(row)?;
+        Some(RowEntry { place, value })
     }
 
     // What a row says.
@@ -373,11 +420,13 @@ impl<'t> Cells<'t> {
         Ok(RowEntry { place, value })
     }
 
-    // Keeps what a row says, for others that differ in their network alone. Its network is not in quotes.
+    // Keeps what a row says, for others that differ in their addresses alone, none of which is in quotes.
     fn keep(&mut self, row: &[u8], value: Option<usize>) {
-        if let Some((network, rest)) = self.split(row) {
-            if network.first() != Some(&b'"') {
-                let _ = self.known.put(rest, value);
+        if let Some(spans) = self.spans_in(row) {
+            if !spans.are_quoted(row) {
+                if let Ok(others) = spans.others_in(row, &mut self.others) {
+                    let _ = self.known.put(others, value);
+                }
             }
         }
     }

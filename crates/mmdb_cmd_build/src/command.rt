@@ -4,12 +4,13 @@ use crate::finish::finish;
 use crate::gather::Gathering;
 use crate::like::learn_types;
 use crate::notes::{report_io, report_write};
+use crate::replaceable::may_replace;
 use crate::taken::TakenRows;
 use crate::task::{BuildTask, STANDARD_INPUT, build_task, options_of};
 use crate::types::Types;
 use mmdb_arguments::BuildArguments;
 use mmdb_console::{Console, FAILED, Pace, ProgramError, ProgressLine};
-use mmdb_files::{Standing, standing_of};
+use mmdb_files::SharedFiles;
 use mmdb_writer::{Options, Writer};
 use std::env::Env;
 use std::fs::File;
@@ -53,7 +54,7 @@ fn gather_from<'t, R: Files, I: BufRead, O: Write, E: Pace>(
 }
 
 // Makes the file of rows whose values have these types.
-fn build_of<R: Files + Clock, I: BufRead, O: Write, E: Pace>(
+fn build_of<R: SharedFiles + Clock, I: BufRead, O: Write, E: Pace>(
     rt: &R,
     task: &BuildTask<'_>,
     options: Options,
@@ -71,9 +72,10 @@ fn build_of<R: Files + Clock, I: BufRead, O: Write, E: Pace>(
         bad: BadRows::new(console.alloc),
         is_too_large: false,
         has_no_header: false,
+        has_open_quote: false,
     };
     match gather_from(rt, &*task, &*types, &mut gathering, input, console) {
-        Ok(()) => finish(rt, task, gathering, console),
+        Ok(()) => finish(rt, task, types, gathering, console),
         Err(ProgramError::Read(error)) if task.from != STANDARD_INPUT => {
             drop(gathering);
             report_io(task.from, error, console)
@@ -85,39 +87,8 @@ fn build_of<R: Files + Clock, I: BufRead, O: Write, E: Pace>(
     }
 }
 
-// Why a file may not take the place of what is there, if it may not.
-fn against(standing: Standing) -> Option<&'static str> {
-    match standing {
-        Standing::Nothing | Standing::Database => None,
-        Standing::Other => Some("what is there is not a MaxMind DB file, and stays"),
-        Standing::NoFile => Some("not a file"),
-        Standing::DeadLink => Some("a link that leads nowhere"),
-    }
-}
-
-// Whether a file may take the place of what is there. Why not is reported.
-fn may_replace<R: Files, O: Write, E: Pace>(
-    rt: &R,
-    out: &str,
-    console: &mut Console<'_, O, E>,
-) -> Result<bool, ProgramError> {
-    match standing_of(rt, console.alloc, out) {
-        Ok(standing) => match against(standing) {
-            None => Ok(true),
-            Some(reason) => {
-                console.report(out, &reason);
-                Ok(false)
-            }
-        },
-        Err(error) => {
-            report_io(out, error, console)?;
-            Ok(false)
-        }
-    }
-}
-
 // Learns types and makes the file.
-fn build_file<R: Files + Env + Clock, I: BufRead, O: Write, E: Pace>(
+fn build_file<R: SharedFiles + Env + Clock, I: BufRead, O: Write, E: Pace>(
     rt: &R,
     task: &BuildTask<'_>,
     options: Options,
@@ -136,7 +107,7 @@ fn build_file<R: Files + Env + Clock, I: BufRead, O: Write, E: Pace>(
 /// Makes a MaxMind DB file of rows, reports what is wrong with them and what the file has, and answers the status. The file
 /// takes the place of what is there when it is whole. An `Err` where an argument is not what is wanted in its place, before any
 /// file is opened; where standard input can't be read, or out of memory.
-pub fn build<R: Files + Env + Clock, I: BufRead, O: Write, E: Pace>(
+pub fn build<R: SharedFiles + Env + Clock, I: BufRead, O: Write, E: Pace>(
     rt: &R,
     arguments: &BuildArguments<'_>,
     input: &mut I,

@@ -2,19 +2,23 @@
 use crate::check::first_difference;
 use crate::gather::Gathering;
 use crate::kept::KeptRows;
-use crate::notes::{note, report_io, report_write};
+use crate::notes::{note, report_write};
+use crate::replaceable::may_replace;
+use crate::scalars::type_name;
 use crate::summary::{Summary, summary_of};
 use crate::taken::TakenRows;
 use crate::task::BuildTask;
+use crate::types::Types;
+use crate::unmet::report_unmet;
 use mmdb_arguments::Reserved;
 use mmdb_blocks::{Block, BlockKind};
-use mmdb_console::{Console, DONE, FAILED, ProgramError};
-use mmdb_files::{MadeFile, make_file};
+use mmdb_console::{Console, DONE, FAILED, ProgramError, note_remarks, report_replace};
+use mmdb_files::{PendingFile, ReplaceError, SharedFiles, begin_file};
+use mmdb_format::kind::Kind;
 use mmdb_layout::{Database, open_at};
 use mmdb_writer::{WriteError, Writer};
 use std::alloc::{AllocError, Global};
 use std::io::Write;
-use std::rt::Files;
 use std::time::Clock;
 
 // How the rows fared.
@@ -25,7 +29,7 @@ fn text_of_rows(
 ) -> Result<String, AllocError> {
     let networks = gathering.taken.networks;
     let reserved = gathering.taken.reserved;
-    let bad = gathering.bad.count;
+    let bad = gathering.bad.lines;
     let how = if task.reserved == Reserved::Skip {
         "left out"
     } else {
@@ -34,6 +38,52 @@ fn text_of_rows(
     format!(in alloc;
         "mmdb: {networks} networks taken, {reserved} reserved {how}, {bad} lines left out"
     )
+}
+
+// Says how many rows have addresses of IPv4 that are written as ones of IPv6, if some have.
+fn note_mapped<O: Write, E: Write>(mapped: u64, console: &mut Console<'_, O, E>) {
+    if mapped > 0 {
+        note(
+            console,
+            format!(in console.alloc; "mmdb: {mapped} lines within ::ffff:0:0/96 are of IPv4"),
+        );
+    }
+}
+
+// The names of types.
+fn text_of_types(alloc: Global, kinds: &[Kind]) -> Result<String, AllocError> {
+    let mut text = String::new(alloc);
+    for kind in kinds {
+        if !text.is_empty() {
+            text.push_str(", ")?;
+        }
+        text.push_str(type_name(*kind))?;
+    }
+    Ok(text)
+}
+
+// Says which paths got values of several types, if some did: the first, and how many there are.
+fn note_several<O: Write, E: Write>(
+    found: &Types,
+    console: &mut Console<'_, O, E>,
+) -> Result<(), AllocError> {
+    let alloc = console.alloc;
+    let several = found.first_several(alloc)?;
+    for node in &several.shown {
+        let path = node.shown_path();
+        let types = text_of_types(alloc, &node.kinds)?;
+        note(
+            console,
+            format!(in alloc; "mmdb: {path} got several types: {types}"),
+        );
+    }
+    if let Some(count) = several.count_of_more() {
+        note(
+            console,
+            format!(in alloc; "mmdb: {count} paths got several types"),
+        );
+    }
+    Ok(())
 }
 
 // What the file has.
@@ -57,10 +107,11 @@ fn report_bad<O: Write, E: Write>(
 ) -> bool {
     let bad = &gathering.bad;
     bad.report(task.from_name(), console);
-    if bad.count == 0 || (task.skip_bad && !gathering.has_no_header) {
+    let ends_here = gathering.has_no_header || gathering.has_open_quote;
+    if bad.lines == 0 || (task.skip_bad && !ends_here) {
         return false;
     }
-    let (from, count) = (task.from_name(), bad.count);
+    let (from, count) = (task.from_name(), bad.lines);
     note(
         console,
         format!(in console.alloc; "mmdb: {from}: {count} lines are wrong"),
@@ -116,16 +167,16 @@ fn is_as_said<O: Write, E: Write>(
 }
 
 // Reads a file back, and says whether it has what the rows say. Where it does not, that is reported.
-fn check<R: Files, O: Write, E: Write>(
+fn check<R: SharedFiles, O: Write, E: Write>(
     rt: &R,
     task: &BuildTask<'_>,
-    made: &MadeFile,
+    pending: &PendingFile<R>,
     kept: KeptRows,
     console: &mut Console<'_, O, E>,
 ) -> Result<bool, ProgramError> {
     let mut kept = kept;
     kept.sort()?;
-    match open_at(rt, made.path(), console) {
+    match open_at(rt, pending.path(), console) {
         Some(database) => {
             let is_right = is_as_said(task, &database, &kept, console);
             drop(database);
@@ -135,51 +186,80 @@ fn check<R: Files, O: Write, E: Write>(
     }
 }
 
-// Gives a file that was made its name, and answers the status.
-fn put_in_place<R: Files, O: Write, E: Write>(
+// Whether a file that was made may take OUT's place: whether OUT may be replaced, and the file has what the rows say, where that
+// is asked for. Why not is reported.
+fn is_right<R: SharedFiles, O: Write, E: Write>(
     rt: &R,
     task: &BuildTask<'_>,
-    made: MadeFile,
+    pending: &PendingFile<R>,
+    kept: Option<KeptRows>,
+    console: &mut Console<'_, O, E>,
+) -> Result<bool, ProgramError> {
+    let may = may_replace(rt, task.out, console)?;
+    match kept {
+        Some(kept) if may => check(rt, task, pending, kept, console),
+        _ => Ok(may),
+    }
+}
+
+// Gives a file that was made its name, and answers the status.
+fn put_in_place<R: SharedFiles, O: Write, E: Write>(
+    rt: &R,
+    task: &BuildTask<'_>,
+    pending: PendingFile<R>,
     summary: Summary,
     console: &mut Console<'_, O, E>,
 ) -> Result<u8, ProgramError> {
-    match made.take_place(rt) {
+    match pending.take_place(rt) {
         Ok(()) => {
             note(console, text_of_file(console.alloc, task.out, summary));
             Ok(DONE)
         }
-        Err(error) => report_io(task.out, error, console),
+        Err(error) => report_replace(task.out, error, console),
     }
 }
 
-// Checks a file that was made, where that is asked for, gives it its name, and answers the status.
-fn check_and_put<R: Files, O: Write, E: Write>(
+// Checks a file that was made, gives it its name, and answers the status.
+fn check_and_put<R: SharedFiles, O: Write, E: Write>(
     rt: &R,
     task: &BuildTask<'_>,
-    made: MadeFile,
+    pending: PendingFile<R>,
     summary: Summary,
     kept: Option<KeptRows>,
     console: &mut Console<'_, O, E>,
 ) -> Result<u8, ProgramError> {
-    let is_right = match kept {
-        Some(kept) => check(rt, task, &made, kept, console),
-        None => Ok(true),
-    };
-    match is_right {
-        Ok(true) => put_in_place(rt, task, made, summary, console),
+    match is_right(rt, task, &pending, kept, console) {
+        Ok(true) => put_in_place(rt, task, pending, summary, console),
         Ok(false) => {
-            made.remove(rt);
+            pending.remove(rt);
             Ok(FAILED)
         }
         Err(error) => {
-            made.remove(rt);
+            pending.remove(rt);
             Err(error)
         }
     }
 }
 
-// Makes the file beside its place, with what it has.
-fn make<R: Files + Clock, O: Write, E: Write>(
+// Makes a file of bytes beside its place.
+fn filled<R: SharedFiles + Clock>(
+    rt: &R,
+    alloc: Global,
+    out: &str,
+    bytes: &[u8],
+) -> Result<PendingFile<R>, ReplaceError> {
+    let mut pending = begin_file(rt, alloc, out)?;
+    match pending.write_all(bytes) {
+        Ok(()) => Ok(pending),
+        Err(error) => {
+            pending.remove(rt);
+            Err(ReplaceError::Io(error))
+        }
+    }
+}
+
+// Makes the file beside its place, with what it has, which is at least one network with a record.
+fn make<R: SharedFiles + Clock, O: Write, E: Write>(
     rt: &R,
     task: &BuildTask<'_>,
     bytes: Vec<u8>,
@@ -187,16 +267,23 @@ fn make<R: Files + Clock, O: Write, E: Write>(
     console: &mut Console<'_, O, E>,
 ) -> Result<u8, ProgramError> {
     let summary = summary_of(console.alloc, &bytes)?;
-    let made = make_file(rt, console.alloc, task.out, &bytes);
+    if summary.networks == 0 {
+        report_nothing(task, console);
+        return Ok(FAILED);
+    }
+    let filled = filled(rt, console.alloc, task.out, &bytes);
     drop(bytes);
-    match made {
-        Ok(made) => check_and_put(rt, task, made, summary, kept, console),
-        Err(error) => report_io(task.out, error, console),
+    match filled {
+        Ok(pending) => {
+            note_remarks(task.out, &pending, console);
+            check_and_put(rt, task, pending, summary, kept, console)
+        }
+        Err(error) => report_replace(task.out, error, console),
     }
 }
 
 // Writes the file of what was taken.
-fn write<R: Files + Clock, O: Write, E: Write>(
+fn write<R: SharedFiles + Clock, O: Write, E: Write>(
     rt: &R,
     task: &BuildTask<'_>,
     writer: Writer,
@@ -209,10 +296,28 @@ fn write<R: Files + Clock, O: Write, E: Write>(
     }
 }
 
-/// Makes the file of what was gathered, and answers the status.
-pub(crate) fn finish<R: Files + Clock, O: Write, E: Write>(
+// Makes the file of what was taken, and answers the status.
+fn finish_taken<R: SharedFiles + Clock, O: Write, E: Write>(
     rt: &R,
     task: &BuildTask<'_>,
+    types: &Types,
+    taken: TakenRows,
+    console: &mut Console<'_, O, E>,
+) -> Result<u8, ProgramError> {
+    note_several(&taken.found, console)?;
+    if report_unmet(task, types, &taken.found, console)? {
+        drop(taken);
+        return Ok(FAILED);
+    }
+    let TakenRows { writer, kept, .. } = taken;
+    write(rt, task, writer, kept, console)
+}
+
+/// Makes the file of what was gathered, and answers the status.
+pub(crate) fn finish<R: SharedFiles + Clock, O: Write, E: Write>(
+    rt: &R,
+    task: &BuildTask<'_>,
+    types: &Types,
     gathering: Gathering,
     console: &mut Console<'_, O, E>,
 ) -> Result<u8, ProgramError> {
@@ -226,12 +331,12 @@ pub(crate) fn finish<R: Files + Clock, O: Write, E: Write>(
         return Ok(FAILED);
     }
     note(console, text_of_rows(console.alloc, task, &gathering));
+    note_mapped(gathering.taken.mapped, console);
     let Gathering { taken, .. } = gathering;
     if !taken.has_value {
         drop(taken);
         report_nothing(task, console);
         return Ok(FAILED);
     }
-    let TakenRows { writer, kept, .. } = taken;
-    write(rt, task, writer, kept, console)
+    finish_taken(rt, task, types, taken, console)
 }

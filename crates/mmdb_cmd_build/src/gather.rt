@@ -23,6 +23,27 @@ pub(crate) struct Gathering {
     pub(crate) is_too_large: bool,
     /// Whether the first row should be a header and is none, so that no other row was read.
     pub(crate) has_no_header: bool,
+    /// Whether a quote is not closed, so that it is not known which rows come after it.
+    pub(crate) has_open_quote: bool,
+}
+
+/// Which lines a row has: the first, and how many.
+#[derive(Clone, Copy)]
+struct RowLines {
+    first: u64,
+    count: u64,
+}
+
+// Which lines a row has, before which and with which so many lines end.
+fn lines_of(before: u64, behind: u64, read: RowRead, row: &[u8]) -> RowLines {
+    let is_last = matches!(read, RowRead::Whole | RowRead::Unclosed) && row.last() != Some(&b'\n');
+    let count = behind
+        .saturating_sub(before)
+        .saturating_add(u64::from(is_last));
+    RowLines {
+        first: before.saturating_add(1),
+        count: count.max(1),
+    }
 }
 
 /// What some editors put before a text.
@@ -39,9 +60,9 @@ fn text_of_row(line: u64, row: &[u8]) -> &[u8] {
 
 impl Gathering {
     // Notes what is wrong with a row.
-    fn note(&mut self, line: u64, error: InputError) -> Result<(), ProgramError> {
+    fn note(&mut self, lines: RowLines, error: InputError) -> Result<(), ProgramError> {
         match error {
-            InputError::Row(row) => Ok(self.bad.add(line, row)?),
+            InputError::Row(row) => Ok(self.bad.add(lines.first, lines.count, row)?),
             InputError::Memory => Err(ProgramError::Memory),
             InputError::TooLarge => {
                 self.is_too_large = true;
@@ -53,19 +74,19 @@ impl Gathering {
     // Takes what a row says.
     fn take(
         &mut self,
-        line: u64,
+        lines: RowLines,
         entry: Result<Option<RowEntry>, InputError>,
     ) -> Result<(), ProgramError> {
         let entry = match entry {
             Ok(entry) => entry,
-            Err(error) => return self.note(line, error),
+            Err(error) => return self.note(lines, error),
         };
         let Some(entry) = entry else {
             return Ok(());
         };
         match self.taken.take(entry) {
             Ok(()) => Ok(()),
-            Err(error) => self.note(line, error),
+            Err(error) => self.note(lines, error),
         }
     }
 
@@ -76,19 +97,20 @@ impl Gathering {
         task: &BuildTask<'t>,
         types: &'t Types,
         reader: &mut RowReader<'t>,
-        line: u64,
+        lines: RowLines,
         read: RowRead,
         row: &[u8],
     ) -> Result<(), ProgramError> {
         let entry = match read {
             RowRead::TooLong => Err(InputError::from(Reason::TooLong)),
             RowRead::Unclosed => Err(InputError::from(Reason::Unclosed)),
+            RowRead::StillOpen => Err(InputError::from(Reason::StillOpen)),
             RowRead::Whole | RowRead::End => {
-                let row = text_of_row(line, row);
+                let row = text_of_row(lines.first, row);
                 reader.entry(alloc, task, types, row, &mut self.taken)
             }
         };
-        self.take(line, entry)
+        self.take(lines, entry)
     }
 
     /// Gathers all rows of an input. An `Err` is of the input, or of memory.
@@ -107,14 +129,16 @@ impl Gathering {
             if passed % STEP == 0 && passed > 0 {
                 progress.passed(Passed::of(passed));
             }
-            let line = ended.saturating_add(1);
+            let before = ended;
             let read = read_row(alloc, input, task.rows(), &mut row, &mut ended)?;
             if read == RowRead::End {
                 break;
             }
-            self.take_row(alloc, task, types, &mut reader, line, read, &row)?;
+            let lines = lines_of(before, ended, read, &row);
+            self.take_row(alloc, task, types, &mut reader, lines, read, &row)?;
             self.has_no_header = reader.wants_header();
-            if self.has_no_header || self.is_too_large {
+            self.has_open_quote = matches!(read, RowRead::Unclosed | RowRead::StillOpen);
+            if self.has_no_header || self.has_open_quote || self.is_too_large {
                 break;
             }
         }

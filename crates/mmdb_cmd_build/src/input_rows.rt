@@ -15,6 +15,8 @@ pub enum RowRead {
     TooLong,
     /// What comes after a quote that nothing closes, up to the end of the input.
     Unclosed,
+    /// The first bytes of a row, as many as one may have, after which a quote is still open. Nothing behind them is a row.
+    StillOpen,
     /// Nothing: the input is at its end.
     End,
 }
@@ -47,6 +49,21 @@ fn read_of(position: RowPosition, is_whole: bool) -> RowRead {
     }
 }
 
+// The beginning of a chunk that a row has room for.
+fn within_room<'c>(row: &[u8], chunk: &'c [u8]) -> &'c [u8] {
+    let room = MOST_ROW.saturating_sub(row.len());
+    chunk.get(..room).unwrap_or(chunk)
+}
+
+// Whether a quote is open behind some bytes of a row, from a position on.
+fn is_open_behind(rows: Rows, from: RowPosition, bytes: &[u8]) -> bool {
+    let mut now = from;
+    for byte in bytes {
+        now = now.after(rows, *byte);
+    }
+    now == RowPosition::Quoted
+}
+
 // Reads the rest of a row whose first chunk is at hand.
 fn read_rest<I: BufRead>(
     alloc: Global,
@@ -61,8 +78,18 @@ fn read_rest<I: BufRead>(
     let mut now = position;
     for _ in 0..u64::MAX {
         chunk.clear();
+        let before = now;
         now = read_chunk(input, rows, now, &mut chunk)?;
-        is_whole = is_whole && append(row, &chunk)?;
+        if is_whole && !append(row, &chunk)? {
+            is_whole = false;
+            let taken = within_room(row, &chunk);
+            if is_open_behind(rows, before, taken) {
+                *lines = lines
+                    .saturating_add(line_ends(rows, taken))
+                    .saturating_add(1);
+                return Ok(RowRead::StillOpen);
+            }
+        }
         *lines = lines.saturating_add(line_ends(rows, &chunk));
         if chunk.is_empty() || now == RowPosition::Ended {
             return Ok(read_of(now, is_whole));

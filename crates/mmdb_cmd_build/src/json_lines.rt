@@ -1,7 +1,7 @@
 //! Lines of JSON.
 use crate::columns::Columns;
 use crate::entry::{RowAddresses, RowEntry, Values};
-use crate::error::{InputError, Reason, named};
+use crate::error::{InputError, Reason, named, named_text};
 use crate::known::KnownTexts;
 use crate::networks::{address_of, network_of};
 use crate::plan::{MOST_COLUMNS, NamedPath, Plan, add_assembled, column_path, plan_of};
@@ -22,8 +22,8 @@ pub const RANGE: &str = "range";
 /// The member that has the whole record.
 pub const RECORD: &str = "record";
 
-// What comes before the network in a line that begins with it, where its member's name needs no escapes.
-fn front_of(alloc: Global, columns: Columns<'_>) -> Result<Option<Vec<u8>>, AllocError> {
+// The name of the member that has the network, in quotes, where it needs no escapes.
+fn quoted_name(alloc: Global, columns: Columns<'_>) -> Result<Option<Vec<u8>>, AllocError> {
     let Columns::Network(name) = columns else {
         return Ok(None);
     };
@@ -33,8 +33,23 @@ fn front_of(alloc: Global, columns: Columns<'_>) -> Result<Option<Vec<u8>>, Allo
     {
         return Ok(None);
     }
-    let front: String = format!(in alloc; "{{\"{name}\":\"")?;
-    Ok(Some(front.into_bytes()))
+    let quoted: String = format!(in alloc; "\"{name}\"")?;
+    Ok(Some(quoted.into_bytes()))
+}
+
+// What comes behind a text, where a line goes on with it after blanks of JSON.
+fn behind<'l>(line: &'l [u8], text: &[u8]) -> Option<&'l [u8]> {
+    let blanks = line
+        .iter()
+        .take_while(|byte| matches!(**byte, b' ' | b'\t' | b'\r' | b'\n'))
+        .count();
+    line.get(blanks..)?.strip_prefix(text)
+}
+
+// What comes behind the quote with which the network of a line begins, where that is its first member.
+fn behind_front<'l>(line: &'l [u8], quoted_name: &[u8]) -> Option<&'l [u8]> {
+    let name = behind(behind(line, b"{")?, quoted_name)?;
+    behind(behind(name, b":")?, b"\"")
 }
 
 // The text of a member.
@@ -52,31 +67,32 @@ fn network_in(
     shown: &json::Value<'_>,
 ) -> Result<RowAddresses, InputError> {
     let text = text_of(alloc, name, shown)?;
-    Ok(RowAddresses::Network(named(alloc, name, network_of(text))?))
+    Ok(RowAddresses::Network(named_text(alloc, name, text, network_of(text))?))
 }
 
 // The range from one address to another.
-fn range_between(first: &str, last: &str) -> Result<RowAddresses, Reason> {
-    let range = AddressRange::new(address_of(first)?, address_of(last)?)?;
+fn range_between(alloc: Global, first: &str, last: &str) -> Result<RowAddresses, InputError> {
+    let from = named_text(alloc, RANGE, first, address_of(first))?;
+    let to = named_text(alloc, RANGE, last, address_of(last))?;
+    let range = named(alloc, RANGE, AddressRange::new(from, to))?;
     Ok(RowAddresses::Range(range))
 }
 
 // The range of a member that is an array of two addresses.
 fn range_in(alloc: Global, shown: &json::Value<'_>) -> Result<RowAddresses, InputError> {
-    let range = match (shown.at(0), shown.at(1), shown.at(2)) {
+    match (shown.at(0), shown.at(1), shown.at(2)) {
         (Some(json::Value::String(first)), Some(json::Value::String(last)), None) => {
-            range_between(*first, *last)
+            range_between(alloc, *first, *last)
         }
-        _ => Err(Reason::NotARange),
-    };
-    named(alloc, RANGE, range)
+        _ => Err(InputError::at(alloc, RANGE, Reason::NotARange)),
+    }
 }
 
 // The address that a member is.
-fn address_in(shown: &json::Value<'_>) -> Result<IpAddr, Reason> {
+fn address_in(alloc: Global, name: &str, shown: &json::Value<'_>) -> Result<IpAddr, InputError> {
     match shown {
-        json::Value::String(text) => address_of(*text),
-        _ => Err(Reason::NotAnAddress),
+        json::Value::String(text) => named_text(alloc, name, *text, address_of(*text)),
+        _ => Err(InputError::at(alloc, name, Reason::NotAnAddress)),
     }
 }
 
@@ -90,8 +106,8 @@ fn range_of_two(
     let (Some(from), Some(to)) = (object.get(first), object.get(last)) else {
         return Err(InputError::from(Reason::NoNetwork));
     };
-    let from = named(alloc, first, address_in(from))?;
-    let to = named(alloc, last, address_in(to))?;
+    let from = address_in(alloc, first, from)?;
+    let to = address_in(alloc, last, to)?;
     let range = named(alloc, first, AddressRange::new(from, to))?;
     Ok(RowAddresses::Range(range))
 }
@@ -159,9 +175,11 @@ fn value_at<'a>(
     path: &[PathElement<'_>],
     arena: &'a Bump,
 ) -> Result<Option<Value<'a>>, InputError> {
+    let node = types.find(path);
+    types.meet(node);
     match shown {
         json::Value::Null => Ok(None),
-        _ => Ok(Some(value_of(alloc, shown, types, types.find(path), arena)?)),
+        _ => Ok(Some(value_of(alloc, shown, types, node, arena)?)),
     }
 }
 
@@ -224,7 +242,7 @@ fn add_record<'a, V: Values>(
     }
     match value_of(alloc, shown, types, types.whole(), arena) {
         Ok(record) => Ok(Some(values.add(alloc, &record)?)),
-        Err(error) => Err(error.below(alloc, RECORD)),
+        Err(error) => Err(error.at_least(alloc, RECORD)),
     }
 }
 
@@ -260,7 +278,7 @@ fn entry_in<'a, V: Values>(
 pub struct JsonLines<'t> {
     columns: Columns<'t>,
     types: &'t Types,
-    front: Option<Vec<u8>>,
+    quoted_name: Option<Vec<u8>>,
     known: KnownTexts,
     scratch: Scratch,
 }
@@ -275,7 +293,7 @@ impl<'t> JsonLines<'t> {
         Ok(JsonLines {
             columns,
             types,
-            front: front_of(alloc, columns)?,
+            quoted_name: quoted_name(alloc, columns)?,
             known: KnownTexts::new(alloc),
             scratch: Scratch::new(alloc),
         })
@@ -283,12 +301,12 @@ impl<'t> JsonLines<'t> {
 
     // The text of the network that a line begins with, and what comes after it.
     fn split<'l>(&self, line: &'l [u8]) -> Option<(&'l [u8], &'l [u8])> {
-        let Some(front) = &self.front else {
+        let Some(quoted_name) = &self.quoted_name else {
             return None;
         };
-        let behind = line.strip_prefix(front.as_slice())?;
-        let end = memchr(b'"', behind)?;
-        behind.split_at_checked(end)
+        let network = behind_front(line, quoted_name)?;
+        let end = memchr(b'"', network)?;
+        network.split_at_checked(end)
     }
 
     // What a line says that differs from an earlier one in its network alone.

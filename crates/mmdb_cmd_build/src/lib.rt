@@ -20,13 +20,16 @@ mod notes;
 mod pieces;
 mod plan;
 mod range;
+mod replaceable;
 mod reserved;
 mod rows;
 mod scalars;
+mod spans;
 mod summary;
 mod taken;
 mod task;
 mod types;
+mod unmet;
 mod values;
 
 pub use cells::Cells;

@@ -3,7 +3,7 @@ use crate::notes::note;
 use crate::task::BuildTask;
 use crate::types::Types;
 use mmdb_console::{Console, ProgramError};
-use mmdb_layout::{Database, Found, open_database};
+use mmdb_layout::{Database, Found, can_be_walked, open_database};
 use mmdb_reader::{MaxMindDbError, WithinOptions};
 use mmdb_value::Value;
 use std::alloc::{AllocError, Global};
@@ -75,6 +75,9 @@ fn learn_file<R: Files + Env, O: Write, E: Write>(
     let Some(database) = open_database(rt, file, console) else {
         return Ok(false);
     };
+    if !can_be_walked(&database, file, None, console)? {
+        return Ok(false);
+    }
     let learned = learn_all(console.alloc, &database, types);
     drop(database);
     match learned {

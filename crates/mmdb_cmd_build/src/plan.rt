@@ -207,7 +207,7 @@ fn assembled_map<'a>(
         match assembled(alloc, &member.1, values) {
             Ok(Some(value)) => pairs.push((member.0.as_str(), value))?,
             Ok(None) => {}
-            Err(error) => return Err(error.below(alloc, member.0.as_str())),
+            Err(error) => return Err(error.below_key(alloc, member.0.as_str())),
         }
     }
     Ok(if pairs.is_empty() {

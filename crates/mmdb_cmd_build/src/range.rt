@@ -4,6 +4,9 @@ use mmdb_blocks::{Block, BlockKind};
 use mmdb_net::IpNetwork;
 use std::net::IpAddr;
 
+/// What comes before the last 32 bits of an address of IPv4 that is written as one of IPv6.
+pub(crate) const MAPPED: u128 = 0xffff;
+
 /// The addresses from one to another one of its kind, as numbers. Those of IPv4 are below 2^32.
 #[derive(Clone, Copy, Debug)]
 pub struct AddressRange {
@@ -33,6 +36,19 @@ impl AddressRange {
             first,
             last,
             is_ipv4,
+        })
+    }
+
+    /// The addresses of IPv4 that these are, if they lie within `::ffff:0:0/96`.
+    pub(crate) fn mapped(self) -> Option<AddressRange> {
+        if self.is_ipv4 || self.first >> 32 != MAPPED || self.last >> 32 != MAPPED {
+            return None;
+        }
+        let last_bits = u128::from(u32::MAX);
+        Some(AddressRange {
+            first: self.first & last_bits,
+            last: self.last & last_bits,
+            is_ipv4: true,
         })
     }
 

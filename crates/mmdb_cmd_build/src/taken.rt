@@ -5,6 +5,7 @@ use crate::kept::{KeptRow, KeptRows, print_of};
 use crate::range::AddressRange;
 use crate::reserved::is_reserved;
 use crate::task::BuildTask;
+use crate::types::Types;
 use mmdb_arguments::Reserved;
 use mmdb_blocks::Block;
 use mmdb_net::IpNetwork;
@@ -35,12 +36,16 @@ fn met_of(block: Block) -> Met {
 #[derive(Drop)]
 pub(crate) struct TakenRows {
     pub(crate) writer: Writer,
+    /// The types of the values.
+    pub(crate) found: Types,
     /// How many networks were taken.
     pub(crate) networks: u64,
     /// Whether one of them has a value.
     pub(crate) has_value: bool,
     /// How many of them lie in reserved ones, or were left out since they do.
     pub(crate) reserved: u64,
+    /// How many rows have addresses of IPv4 that are written as ones of IPv6.
+    pub(crate) mapped: u64,
     is_ipv4_alone: bool,
     reserved_are: Reserved,
     /// The networks, where equal ones are an error.
@@ -73,7 +78,7 @@ fn error_of(error: WriteError) -> InputError {
 
 impl Values for TakenRows {
     fn check(&self, place: RowAddresses) -> Result<(), Reason> {
-        match place {
+        match place.mapped().unwrap_or(place) {
             RowAddresses::Network(network) => self.check_network(network),
             RowAddresses::Range(range) => self.check_range(range),
         }
@@ -82,6 +87,7 @@ impl Values for TakenRows {
     fn add(&mut self, alloc: Global, value: &Value<'_>) -> Result<usize, InputError> {
         match self.writer.add_value(alloc, value) {
             Ok(index) => {
+                self.found.learn(alloc, value)?;
                 self.keep_value(alloc, value)?;
                 Ok(index)
             }
@@ -100,9 +106,11 @@ impl TakenRows {
     ) -> TakenRows {
         TakenRows {
             writer,
+            found: Types::bounded(alloc),
             networks: 0,
             has_value: false,
             reserved: 0,
+            mapped: 0,
             is_ipv4_alone: version == IpVersion::V4,
             reserved_are: task.reserved,
             met: if task.equal_is_error {
@@ -209,7 +217,14 @@ impl TakenRows {
     /// Takes what a row says: all its networks or none, but for those in reserved ones that are skipped.
     pub(crate) fn take(&mut self, entry: RowEntry) -> Result<(), InputError> {
         self.check(entry.place)?;
-        match entry.place {
+        let place = match entry.place.mapped() {
+            Some(mapped) => {
+                self.mapped = self.mapped.saturating_add(1);
+                mapped
+            }
+            None => entry.place,
+        };
+        match place {
             RowAddresses::Network(network) => self.put(network, entry.value),
             RowAddresses::Range(range) => self.put_range(range, entry.value),
         }

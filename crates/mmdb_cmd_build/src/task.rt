@@ -19,6 +19,8 @@ const EPOCH: &str = "SOURCE_DATE_EPOCH";
 /// A path, and the type of the values there.
 #[derive(Drop)]
 pub(crate) struct TypedPath<'a> {
+    /// The path as it is given.
+    pub(crate) text: &'a str,
     pub(crate) path: Vec<PathElement<'a>>,
     pub(crate) kind: Kind,
 }
@@ -95,12 +97,16 @@ fn columns_of<'a>(alloc: Global, arguments: &BuildArguments<'a>) -> Result<Colum
 
 // A path and a type.
 fn typed_path<'a>(alloc: Global, text: &'a str) -> Result<TypedPath<'a>, NoRequest> {
-    let Some((path, name)) = text.rsplit_once('=') else {
+    let Some((given, name)) = text.rsplit_once('=') else {
         return Err(NoRequest::bad_argument(alloc, text, "not a path and a type"));
     };
-    let path = wanted_path(alloc, path)?;
+    let path = wanted_path(alloc, given)?;
     match type_of(name) {
-        Some(kind) => Ok(TypedPath { path, kind }),
+        Some(kind) => Ok(TypedPath {
+            text: given,
+            path,
+            kind,
+        }),
         None => Err(NoRequest::bad_argument(alloc, text, "not a type that is known")),
     }
 }

@@ -27,16 +27,24 @@ pub(crate) fn value_of<'a>(
     match shown {
         json::Value::Null => Ok(null_value(kinds)?),
         json::Value::Bool(truth) => Ok(bool_value(*truth, kinds)?),
-        json::Value::Number(text) => Ok(number_value(*text, kinds)?),
-        json::Value::String(text) => text_value(alloc, *text, TextSource::Json, kinds, arena),
+        json::Value::Number(text) => match number_value(*text, kinds) {
+            Ok(value) => Ok(value),
+            Err(reason) => Err(InputError::from(reason).of_text(alloc, *text)),
+        },
+        json::Value::String(text) => {
+            match text_value(alloc, *text, TextSource::Json, kinds, arena) {
+                Ok(value) => Ok(value),
+                Err(error) => Err(error.of_text(alloc, *text)),
+            }
+        }
         json::Value::Array(items) => {
             check_container(kinds, Kind::Array)?;
             let below = types.items(node);
             let mut values = Vec::new(alloc);
-            for item in items {
+            for (index, item) in items.iter().enumerate() {
                 match value_of(alloc, item, types, below, arena) {
                     Ok(value) => values.push(value)?,
-                    Err(error) => return Err(error.below(alloc, "[]")),
+                    Err(error) => return Err(error.below_index(alloc, index)),
                 }
             }
             Ok(Value::Array(values))
@@ -48,7 +56,7 @@ pub(crate) fn value_of<'a>(
                 let below = types.member(node, member.0);
                 match value_of(alloc, &member.1, types, below, arena) {
                     Ok(value) => pairs.push((member.0, value))?,
-                    Err(error) => return Err(error.below(alloc, member.0)),
+                    Err(error) => return Err(error.below_key(alloc, member.0)),
                 }
             }
             Ok(Value::Map(pairs))

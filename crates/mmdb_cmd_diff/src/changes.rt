@@ -55,14 +55,18 @@ pub(crate) struct Changes<'a, 'r> {
     pub(crate) counts: ChangeCounts,
 }
 
-/// The network of a block.
-pub(crate) fn network_of(block: Block, is_ipv4: bool) -> Result<IpNetwork, ProgramError> {
-    let kind = if is_ipv4 {
+/// The kind of addresses of IPv4 or not.
+pub(crate) fn kind_of(is_ipv4: bool) -> BlockKind {
+    if is_ipv4 {
         BlockKind::Ipv4
     } else {
         BlockKind::Ipv6
-    };
-    match kind.network_of(block) {
+    }
+}
+
+/// The network of a block.
+pub(crate) fn network_of(block: Block, is_ipv4: bool) -> Result<IpNetwork, ProgramError> {
+    match kind_of(is_ipv4).network_of(block) {
         Ok(network) => Ok(network),
         Err(_) => Err(ProgramError::OutOfOrder),
     }

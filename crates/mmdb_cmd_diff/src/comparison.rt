@@ -1,15 +1,18 @@
 //! What changed between two files.
-use crate::changes::{Changes, network_of};
+use crate::changes::{Changes, kind_of, network_of};
 use crate::counts::ChangeCounts;
 use crate::differences::{FoundInBoth, Pairs, UnreadableValue, put_names};
 use crate::same::are_all_readable;
 use crate::two_databases::{TwoDatabases, open_two};
 use mmdb_arguments::{DiffArguments, NoRequest};
+use mmdb_blocks::{BlockKind, Kinds};
 use mmdb_compare::{Comparison, ComparisonPart, Offsets, Side, Stretch, UnreadLeaf};
 use mmdb_console::{
     Console, DIFFERENT, DONE, FAILED, Pace, Passed, ProgramError, Where, note_range, range_of,
 };
-use mmdb_layout::{Database, FieldsMet, Layout, Networks, layout_of, networks_in};
+use mmdb_layout::{
+    Database, FieldsMet, Layout, Networks, can_be_walked, layout_of, networks_in, range_asked,
+};
 use mmdb_reader::{IpNetwork, MaxMindDbError};
 use std::alloc::{AllocError, Global};
 use std::collections::HashSet;
@@ -17,6 +20,9 @@ use std::env::Env;
 use std::io::Write;
 use std::net::{IpAddr, Ipv4Addr, Ipv6Addr};
 use std::rt::Files;
+
+/// How many networks are named that can't be read. The others are counted.
+const MOST_NAMED: u64 = 10;
 
 /// How many stretches are compared together.
 const MOST_WAITING: usize = 64;
@@ -30,6 +36,7 @@ struct DiffTask<'a> {
     old: &'a str,
     new: &'a str,
     range: Option<IpNetwork>,
+    kinds: Kinds,
     layout: Layout<'a>,
     exit_code: bool,
 }
@@ -43,6 +50,7 @@ fn diff_task<'a>(
         old: arguments.old,
         new: arguments.new,
         range: range_of(alloc, arguments.range)?,
+        kinds: Kinds::asked(arguments.ipv4, arguments.ipv6),
         layout: layout_of(alloc, arguments.is_csv, arguments.fields.as_slice(), &[])?,
         exit_code: arguments.exit_code,
     })
@@ -91,6 +99,10 @@ struct SoFar<'a, 'r> {
     waiting: Waiting,
     changes: Changes<'a, 'r>,
     faults: u64,
+    /// The network of the old database that was the last one whose record could not be read.
+    faulty_old: Option<IpNetwork>,
+    /// That of the new one.
+    faulty_new: Option<IpNetwork>,
     /// How often stretches that waited were compared.
     times: u64,
 }
@@ -107,6 +119,8 @@ impl<'a, 'r> SoFar<'a, 'r> {
             waiting: Waiting::new(alloc)?,
             changes: Changes::new(alloc, layout)?,
             faults: 0,
+            faulty_old: None,
+            faulty_new: None,
             times: 0,
         })
     }
@@ -118,10 +132,24 @@ impl<'a, 'r> SoFar<'a, 'r> {
         }
     }
 
-    // Counts what can't be read, before which what waits is written.
-    fn begin_fault<O: Write>(&mut self, out: &mut O) -> Result<(), ProgramError> {
+    // Counts what can't be read, before which what waits is written. Whether it is named: as long as not enough were.
+    fn begin_fault<O: Write>(&mut self, out: &mut O) -> Result<bool, ProgramError> {
         self.faults = self.faults.saturating_add(1);
-        self.changes.finish(&mut self.pairs, out)
+        if self.faults > MOST_NAMED {
+            return Ok(false);
+        }
+        self.changes.finish(&mut self.pairs, out)?;
+        Ok(true)
+    }
+
+    // Whether the network of a side is another one than the last of it whose record could not be read, which is noted: one of a
+    // file is in as many stretches as the other one has networks there.
+    fn is_new_fault(&mut self, side: Side, network: IpNetwork) -> bool {
+        let last = match side {
+            Side::Old => self.faulty_old.replace(network),
+            Side::New => self.faulty_new.replace(network),
+        };
+        last != Some(network)
     }
 }
 
@@ -170,7 +198,9 @@ fn report_leaf<O: Write, E: Pace>(
     so_far: &mut SoFar<'_, '_>,
     console: &mut Console<'_, O, E>,
 ) -> Result<(), ProgramError> {
-    so_far.begin_fault(console.out)?;
+    if !so_far.begin_fault(console.out)? {
+        return Ok(());
+    }
     let place = match leaf.behind {
         Some(network) => Where::Behind(network),
         None => Where::First,
@@ -178,21 +208,41 @@ fn report_leaf<O: Write, E: Pace>(
     report_in(file, place, &leaf.error, so_far, console)
 }
 
-// Reports a value that can't be read, unless memory is out, after what waits.
+// The network whose value can't be read, as its file has it.
+fn network_of_fault(
+    stretch: Stretch,
+    side: Side,
+    answers: FoundInBoth<'_, '_>,
+) -> Result<IpNetwork, ProgramError> {
+    let found = match side {
+        Side::Old => answers.old,
+        Side::New => answers.new,
+    };
+    match found {
+        Some(found) => Ok(found.network()?),
+        None => network_of(stretch.block, stretch.is_ipv4),
+    }
+}
+
+// Reports a value that can't be read, unless memory is out, after what waits: once for each network of its file.
 #[inline(never)]
 fn report_value<O: Write, E: Pace>(
     task: &DiffTask<'_>,
     stretch: Stretch,
+    answers: FoundInBoth<'_, '_>,
     unreadable: &UnreadableValue,
     so_far: &mut SoFar<'_, '_>,
     console: &mut Console<'_, O, E>,
 ) -> Result<(), ProgramError> {
-    so_far.begin_fault(console.out)?;
     if let MaxMindDbError::Memory = unreadable.error {
+        so_far.begin_fault(console.out)?;
         return Err(ProgramError::Memory);
     }
+    let network = network_of_fault(stretch, unreadable.side, answers)?;
+    if !so_far.is_new_fault(unreadable.side, network) || !so_far.begin_fault(console.out)? {
+        return Ok(());
+    }
     let file = file_of(task, unreadable.side);
-    let network = network_of(stretch.block, stretch.is_ipv4)?;
     report_in(file, Where::At(network), &unreadable.error, so_far, console)
 }
 
@@ -211,7 +261,7 @@ fn compare_answers<'r, O: Write, E: Pace>(
             so_far.changes.push(stretch, answers, pairs, console.out)
         }
         Err(unreadable) => {
-            let reported = report_value(task, stretch, &unreadable, so_far, console);
+            let reported = report_value(task, stretch, answers, &unreadable, so_far, console);
             drop(unreadable);
             reported
         }
@@ -229,6 +279,9 @@ fn compare_stretch<'r, O: Write, E: Pace>(
     so_far: &mut SoFar<'_, 'r>,
     console: &mut Console<'_, O, E>,
 ) -> Result<(), ProgramError> {
+    if !task.kinds.has(kind_of(stretch.is_ipv4)) {
+        return Ok(());
+    }
     if let Some(offsets) = offsets {
         if so_far.pairs.is_seen_same(&task.layout, offsets) {
             return Ok(());
@@ -360,6 +413,7 @@ fn report_counts<O: Write, E: Pace>(
     let text = counts.text(console.alloc)?;
     console.note(Ok(text));
     if faults > 0 {
+        console.note(format!(in console.alloc; "mmdb: {faults} networks could not be read\n"));
         Ok(FAILED)
     } else if exit_code && !counts.are_same() {
         Ok(DIFFERENT)
@@ -368,9 +422,10 @@ fn report_counts<O: Write, E: Pace>(
     }
 }
 
-// All addresses that both databases have.
-fn all_of(old: &Database, new: &Database) -> Result<IpNetwork, MaxMindDbError> {
-    let has_ipv6 = old.metadata().ip_version == 6 && new.metadata().ip_version == 6;
+// All addresses of the wanted kinds that both databases have.
+fn all_of(old: &Database, new: &Database, kinds: Kinds) -> Result<IpNetwork, MaxMindDbError> {
+    let have_ipv6 = old.metadata().ip_version == 6 && new.metadata().ip_version == 6;
+    let has_ipv6 = have_ipv6 && kinds.has(BlockKind::Ipv6);
     let first = if has_ipv6 {
         IpAddr::V6(Ipv6Addr::UNSPECIFIED)
     } else {
@@ -509,10 +564,16 @@ fn diff_databases<'a, O: Write, E: Pace>(
     task: &'a DiffTask<'a>,
     console: &mut Console<'_, O, E>,
 ) -> Result<u8, ProgramError> {
-    let range = match task.range {
+    let both = [databases.old(), databases.newer()];
+    let range = match range_asked(&both, task.range, console)? {
         Some(range) => range,
-        None => all_of(databases.old(), databases.newer())?,
+        None => all_of(databases.old(), databases.newer(), task.kinds)?,
     };
+    if !can_be_walked(databases.old(), task.old, Some(range), console)?
+        || !can_be_walked(databases.newer(), task.new, Some(range), console)?
+    {
+        return Ok(FAILED);
+    }
     note_absent(task, databases, range, console)?;
     if databases.have_same_bytes()
         && are_all_readable(console.alloc, databases.old(), range, &task.layout)

@@ -1,8 +1,8 @@
 //! Two files with the same bytes: nothing differs where all that they have can be read.
 use mmdb_compare::SideBySide;
+use mmdb_found::value_along;
 use mmdb_layout::{ChosenFields, Database, Found, Layout};
 use mmdb_reader::{IpNetwork, MaxMindDbError, PathElement, WithinOptions};
-use mmdb_value::Value;
 use std::alloc::{AllocError, Global};
 
 // The records of a range that were met. Of each the fields that are shown are read where it is met first; whole records
@@ -22,8 +22,7 @@ fn is_read<T: Drop, E: Drop>(read: Result<T, E>) -> bool {
 
 // Whether the value at a path of a record can be read.
 fn can_read_value(alloc: Global, found: &Found<'_>, path: &[PathElement<'_>]) -> bool {
-    let value: Result<Option<Value<'_>>, MaxMindDbError> = found.decode_path(alloc, path);
-    is_read(value)
+    is_read(value_along(alloc, found, path))
 }
 
 // Whether the values at some paths of a record can be read.

@@ -18,7 +18,7 @@ use Rattle.mmdb_cmd_enrich.specs.Rows.{paths_of}
 use Rattle.mmdb_cmd_enrich.specs.Working.{AddsAtTo, AddsForTo}
 
 pub found_added : (db : Database) (rows : Rows) (fields : Vec (Vec PathElement)) (address : IpAddr) (leaf : List Bool) (offset o : Option ℕ) (outcome : Outcome) (old new : Vec ℕ)
-    → Answers db address leaf (outcome_at o) → o ≡ offset → AddsAtTo db rows fields offset outcome old new → AddsForTo db rows fields (Some address) outcome old new
+    → Answers db address leaf (outcome_at o) → o ≡ offset → AddsAtTo db rows fields offset outcome old new → AddsForTo db rows fields address outcome old new
 found_added db rows fields address leaf offset o outcome old new answers at (extra, adds, put) = (extra, inr (leaf, offset, subst (λ x. Answers db address leaf (outcome_at x)) at answers, adds), put)
 
 pub absent_added : (db : Database) (rows : Rows) (fields : Vec (Vec PathElement)) (outcome : Outcome) (old new : Vec ℕ) → outcome ≡ Absent → new.items ≡ old.items ++ blanks rows (paths_of fields) → AddsAtTo db rows fields None outcome old new
@@ -43,6 +43,6 @@ held (Some y) x P e h = let same : y ≡ x = cc in subst P same h
 -- the lookup of an address fails
 pub rejected_added : (db : Database) (rows : Rows) (fields : Vec (Vec PathElement)) (address : IpAddr) (e : MaxMindDbError) (outcome : Outcome) (old new : Vec ℕ)
     → (kind_of e ≡ OfInput) ⊎ (kind_of e ≡ OfDatabase) → (kind_of e ≡ OfInput → CanAsk db address → ⊥) → (kind_of e ≡ OfDatabase → IsInvalidAt db address)
-    → outcome ≡ Failed → new.items ≡ old.items ++ blanks rows (paths_of fields) → AddsForTo db rows fields (Some address) outcome old new
+    → outcome ≡ Failed → new.items ≡ old.items ++ blanks rows (paths_of fields) → AddsForTo db rows fields address outcome old new
 rejected_added db rows fields address e outcome old new (inl is) ask at o put = (blanks rows (paths_of fields), inl (inl (ask is), refl, o), put)
 rejected_added db rows fields address e outcome old new (inr is) ask at o put = (blanks rows (paths_of fields), inl (inr (at is), refl, o), put)

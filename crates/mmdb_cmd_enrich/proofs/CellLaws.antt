@@ -1,11 +1,11 @@
 -- Cells, one after another.
 use Rattle.std.proofs.Common.{◌≡◌, ℕ, List, [], ◌∷◌, ◌++◌, Bool, true, false, ◌&&◌, is_some, Option, Some, None, option_map, Result, Ok, Err, IfOk, IfErr, refl, sym, ap, ◌∙◌, append_assoc, append-nil}
 use Rattle.mmdb_format.specs.declared.error.MaxMindDbError.{MaxMindDbError}
-use Rattle.mmdb_value.specs.AnyValue.{value_at}
+use Rattle.mmdb_found.specs.Found.{value_found}
 use Rattle.mmdb_value.specs.Values.{value_tree}
 use Rattle.mmdb_value.specs.declared.any_value.Value.{Value}
 use Rattle.mmdb_reader.specs.Decoding.{FailsToDecode}
-use Rattle.mmdb_reader.specs.Selecting.{answer_along, SelectsTo}
+use Rattle.mmdb_reader.specs.Selecting.{SelectsTo}
 use Rattle.mmdb_reader.specs.declared.path.PathElement.{PathElement}
 use Rattle.mmdb_filter.specs.declared.rows.Rows.{Rows}
 use Rattle.mmdb_cmd_enrich.specs.Columns.{delimiter_of}
@@ -15,13 +15,13 @@ use Rattle.mmdb_layout.specs.Reading.{reads_in, IsReadAs}
 
 -- what decoding along a path gave
 pub read_as : (path : List PathElement) (s : List ℕ) (found : Option ℕ) (r : Result (Option Value) MaxMindDbError)
-    → IfOk r (λ value. true ≡ true → SelectsTo value_tree (answer_along path true (value_at true) s) found value)
-    → IfErr r (λ e. true ≡ true → FailsToDecode false e (answer_along path true (value_at true) s) found)
+    → IfOk r (λ value. SelectsTo value_tree (value_found path s) found value)
+    → IfErr r (λ e. FailsToDecode false e (value_found path s) found)
     → IsReadAs (reads_in s found path) r
-read_as path s None (Ok value) ok err = ap (λ v. Some (option_map value_tree v)) (sym (ok refl))
-read_as path s (Some offset) (Ok value) ok err = ok refl
-read_as path s None (Err e) ok err = absurd (err refl)
-read_as path s (Some offset) (Err e) ok err = err refl
+read_as path s None (Ok value) ok err = ap (λ v. Some (option_map value_tree v)) (sym ok)
+read_as path s (Some offset) (Ok value) ok err = ok
+read_as path s None (Err e) ok err = absurd err
+read_as path s (Some offset) (Err e) ok err = err
 
 -- a cell after what was added before it
 pub behind_both : (old here cell pushed new : List ℕ) → pushed ≡ old ++ here → new ≡ pushed ++ cell → new ≡ old ++ (here ++ cell)

@@ -9,7 +9,7 @@ use Rattle.mmdb_filter.specs.declared.rows.RowPosition.{RowPosition}
 use Rattle.mmdb_filter.specs.declared.rows.RowPosition.TheVariants.{Cell, Plain, Quoted, Closing, Ended}
 use Rattle.mmdb_cmd_enrich.specs.Columns.{delimiter_of, is_quoted, cell_length, column_of}
 
-column_suc : (rows : Rows) (goes_on : Bool) (n : ℕ) (xs ys : List ℕ) (t : nat_lt (cell_length rows Cell xs) (length xs) ≡ true) → ys ≡ drop (cell_length rows Cell xs + 1) xs → column_of rows goes_on (suc n) xs ≡ column_of rows goes_on n ys
+pub column_suc : (rows : Rows) (goes_on : Bool) (n : ℕ) (xs ys : List ℕ) (t : nat_lt (cell_length rows Cell xs) (length xs) ≡ true) → ys ≡ drop (cell_length rows Cell xs + 1) xs → column_of rows goes_on (suc n) xs ≡ column_of rows goes_on n ys
 column_suc rows goes_on n xs ys t e = ap (λ b. cond b (column_of rows goes_on n (drop (cell_length rows Cell xs + 1) xs)) None) t ∙ ap (column_of rows goes_on n) (sym e)
 
 pub column_step : (rows : Rows) (goes_on : Bool) (column counter p : ℕ) (xs ys : List ℕ) → counter < column → p ≡ cell_length rows Cell xs → p < length xs → ys ≡ drop (p + 1) xs → column_of rows goes_on (column - counter) xs ≡ column_of rows goes_on (column - (counter + 1)) ys

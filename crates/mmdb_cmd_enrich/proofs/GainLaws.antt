@@ -11,12 +11,12 @@ use Rattle.mmdb_layout.specs.Reading.{reads_in}
 use Rattle.mmdb_reader.specs.File.{Database, data_section}
 use Rattle.mmdb_reader.specs.declared.path.PathElement.{PathElement}
 use Rattle.mmdb_objects.specs.declared.step.PathStep.{PathStep}
-use Rattle.mmdb_filter.specs.Lines.{text_length, text_of, front_of, back_of, most_seen, seen_of, is_long, row_with}
+use Rattle.mmdb_filter.specs.Lines.{text_length, text_of, front_of, back_of, seen_of, is_long, row_with}
 use Rattle.mmdb_filter.specs.declared.counts.Outcome.TheVariants.{Found}
 use Rattle.mmdb_filter.proofs.TextLaws.{text_within}
 use Rattle.mmdb_addresses.specs.declared.readings.Reading.{Reading}
-use Rattle.mmdb_cmd_enrich.specs.Fields.{AreValue, AreFields, member_tokens}
-use Rattle.mmdb_cmd_enrich.specs.Longer.{AreShown, GainsMember, LongerTextIsJson, LongerRowIsJson}
+use Rattle.mmdb_cmd_enrich.specs.Fields.{AreValue, AreValues, AreFields, object_tokens}
+use Rattle.mmdb_cmd_enrich.specs.Longer.{AreShown, IsShown, GainsMember, LongerTextIsJson, LongerRowIsJson}
 use Rattle.mmdb_objects.specs.Longer.{put_in, and_last}
 use Rattle.mmdb_cmd_enrich.specs.Members.{AddsMember}
 use Rattle.mmdb_objects.specs.Longer.{comma_behind}
@@ -42,28 +42,41 @@ shown_of reads (field ∷ fields) ts (here, rest, are, value, more) =
       are ∙ (λ i. key field.name.now ∷ (found.1 i ++ others.2 i)),
     )
 
-pub member_is : (name : List ℕ) (ts : List Token) (shown : Members) → ts ≡ inner shown → member_tokens name ts ≡ key name ∷ json_tokens (object shown)
-member_is name ts shown e = ap (λ l. key name ∷ begin_object ∷ l) (ap (λ l. l ++ end_object ∷ []) e ∙ sym (inner-closed shown))
+pub object_is : (ts : List Token) (shown : Members) → ts ≡ inner shown → object_tokens ts ≡ json_tokens (object shown)
+object_is ts shown e = ap (λ l. begin_object ∷ l) (ap (λ l. l ++ end_object ∷ []) e ∙ sym (inner-closed shown))
+
+-- the tokens of what is read whole are those of JSON too
+pub whole_shown : (reads : List PathElement → Option (Option Tree)) (value : List Token) → AreValue (reads []) value → (j : Json) × AreValue (reads []) (json_tokens j) × (value ≡ json_tokens j)
+whole_shown reads value is =
+    let found = value_of (reads []) value is in
+    (found.0, subst (AreValue (reads [])) found.1 is, found.1)
+
+value_shown : (reads : List PathElement → Option (Option Tree)) (fields : List NamedField) (value : List Token) → AreValues [] reads fields value → (j : Json) × IsShown reads fields j × (value ≡ json_tokens j)
+value_shown reads [] value is = whole_shown reads value is
+value_shown reads (field ∷ fields) value (tokens, are, put) =
+    let found = shown_of reads (field ∷ fields) tokens are in
+    (object found.0, (found.0, found.1, refl), put ∙ object_is tokens found.0 found.2)
 
 -- ---- of any line that holds such a text
 
 module _ (db : Database) (reading : Reading) (path : List PathStep) (nulls : Bool) (name : List ℕ) (fields : List NamedField) (text : List ℕ) (goes_on : Bool) (extra : List ℕ) (behind : ℕ) (line longer : List ℕ)
     (was : (ms : Members) → IsObject text goes_on ms behind → document line ≡ Some (object ms))
-    (becomes : (ms shown : Members) → IsObject text goes_on ms behind → extra ≡ comma_behind (is_empty ms) ++ print (key name ∷ json_tokens (object shown))
-    → tokens (print (key name ∷ json_tokens (object shown))) ≡ key name ∷ json_tokens (object shown) → depth (object shown) < max_depth → document longer ≡ Some (object (and_last ms name (object shown)))) where
+    (becomes : (ms : Members) (value : Json) → IsObject text goes_on ms behind → extra ≡ comma_behind (is_empty ms) ++ print (key name ∷ json_tokens value)
+    → tokens (print (key name ∷ json_tokens value)) ≡ key name ∷ json_tokens value → depth value < max_depth → document longer ≡ Some (object (and_last ms name value))) where
   gains : AddsMember db reading path nulls name fields text goes_on extra behind Found → GainsMember db reading path name fields line extra longer
   gains (inl (none, other, why)) = absurd (cc)
-  gains (inr (_, _, _, inl (none, other, why))) = absurd (cc)
-  gains (inr (_, _, _, inr (_, None, None, _, _, (other, _)))) = absurd (cc)
-  gains (inr (_, _, _, inr (_, Some _, None, _, never, _))) = absurd never
-  gains (inr (_, _, _, inr (_, None, Some _, _, never, _))) = absurd never
-  gains (inr (_, _, _, inr (_, Some _, Some _, _, _, inl (none, other, why)))) = absurd (cc)
-  gains (inr (_, _, _, inr (_, Some _, Some _, _, _, inr (inl (other, why, none))))) = absurd (cc)
-  gains (inr (ms, at, of, inr (fresh, Some address, Some asked, leads, asks, inr (inr (leaf, offset, put, answers, made, extra_is, same, outcome))))) =
-      let shown = shown_of (reads_in (data_section db) (Some offset)) fields made.0 made.1 in
+  gains (inr (inl (none, other, why))) = absurd (cc)
+  gains (inr (inr (_, _, _, inl (none, other, why)))) = absurd (cc)
+  gains (inr (inr (_, _, _, inr (_, None, None, _, _, (other, _))))) = absurd (cc)
+  gains (inr (inr (_, _, _, inr (_, Some _, None, _, never, _)))) = absurd never
+  gains (inr (inr (_, _, _, inr (_, None, Some _, _, never, _)))) = absurd never
+  gains (inr (inr (_, _, _, inr (_, Some _, Some _, _, _, inl (none, other, why))))) = absurd (cc)
+  gains (inr (inr (_, _, _, inr (_, Some _, Some _, _, _, inr (inl (other, why, none)))))) = absurd (cc)
+  gains (inr (inr (ms, at, of, inr (fresh, Some address, Some asked, leads, asks, inr (inr (leaf, offset, put, answers, made, extra_is, same, outcome)))))) =
+      let shown = value_shown (reads_in (data_section db) (Some offset)) fields made.0 made.1 in
       let here : IsObject text goes_on ms behind = subst (IsObject text goes_on ms) (sym same) of in
-      let ts = key name ∷ json_tokens (object shown.0) in
-      let is = member_is name made.0 shown.0 shown.2 in
+      let ts = key name ∷ json_tokens shown.0 in
+      let is = ap (λ l. key name ∷ l) shown.2 in
       let printed : put ≡ print ts = made.2 ∙ ap print is in
       let added : extra ≡ comma_behind (is_empty ms) ++ print ts = extra_is ∙ ap (λ l. comma_behind (is_empty ms) ++ l) printed in
       record {
@@ -77,7 +90,7 @@ module _ (db : Database) (reading : Reading) (path : List PathStep) (nulls : Boo
         leaf = leaf;
         offset = offset;
         answers = answers;
-        shown = shown.0;
+        value = shown.0;
         shows = shown.1;
         added = added;
         becomes = becomes ms shown.0 here added (ap tokens (sym printed) ∙ made.3 ∙ is);
@@ -85,14 +98,14 @@ module _ (db : Database) (reading : Reading) (path : List PathStep) (nulls : Boo
 
 -- ---- of the text itself
 
-pub text_longer : (name text : List ℕ) (goes_on : Bool) (extra : List ℕ) (behind : ℕ) (ms shown : Members) → IsObject text goes_on ms behind
-    → extra ≡ comma_behind (is_empty ms) ++ print (key name ∷ json_tokens (object shown)) → tokens (print (key name ∷ json_tokens (object shown))) ≡ key name ∷ json_tokens (object shown) → depth (object shown) < max_depth
-    → document (put_in text extra behind) ≡ Some (object (and_last ms name (object shown)))
-text_longer name text goes_on extra behind ms shown of added read shallow =
+pub text_longer : (name text : List ℕ) (goes_on : Bool) (extra : List ℕ) (behind : ℕ) (ms : Members) (value : Json) → IsObject text goes_on ms behind
+    → extra ≡ comma_behind (is_empty ms) ++ print (key name ∷ json_tokens value) → tokens (print (key name ∷ json_tokens value)) ≡ key name ∷ json_tokens value → depth value < max_depth
+    → document (put_in text extra behind) ≡ Some (object (and_last ms name value))
+text_longer name text goes_on extra behind ms value of added read shallow =
     let n = length text - behind in
     let b = last_brace text behind of.ends in
     ap (λ l. document (take n text ++ (l ++ drop n text))) added
-    ∙ object_longer (take n text) (drop n text) (drop n text) ms name (object shown) b b (ap document (take-append-drop n text) ∙ of.value) read shallow
+    ∙ object_longer (take n text) (drop n text) (drop n text) ms name value b b (ap document (take-append-drop n text) ∙ of.value) read shallow
 
 pub longer_text : LongerTextIsJson
 longer_text db reading path nulls name fields text goes_on extra behind =
@@ -125,54 +138,54 @@ end_is_space row =
     at false b c d p q r s = subst AllSpace (sym (drop_all (length row) row (omega arith))) tt
 
 -- all of a row's text is seen, so it is cut where its text is
-record Cut (row : List ℕ) (behind : ℕ) : Type 0 where
-  front : take (length (seen_of row) - behind) (seen_of row) ≡ front_of row behind
-  back : drop (length (seen_of row) - behind) (seen_of row) ++ drop (text_length row) row ≡ back_of row behind
+record Cut (most : ℕ) (row : List ℕ) (behind : ℕ) : Type 0 where
+  front : take (length (seen_of most row) - behind) (seen_of most row) ≡ front_of row behind
+  back : drop (length (seen_of most row) - behind) (seen_of most row) ++ drop (text_length row) row ≡ back_of row behind
 
-cut : (row : List ℕ) (behind : ℕ) → is_long row ≡ false → Cut row behind
-cut row behind short =
+cut : (most : ℕ) (row : List ℕ) (behind : ℕ) → is_long most row ≡ false → Cut most row behind
+cut most row behind short =
     let t = text_length row in
     let text = text_of row in
     let within : t ≤ length row = (text_within row).0 in
-    let seen : seen_of row ≡ text = take_all most_seen text (ltb-false most_seen (length text) short) in
+    let seen : seen_of most row ≡ text = take_all most text (ltb-false most (length text) short) in
     let long : length text ≡ t = length-take-le t row within in
-    let at : length (seen_of row) - behind ≡ t - behind = ap (λ l. length l - behind) seen ∙ ap (λ n. n - behind) long in
+    let at : length (seen_of most row) - behind ≡ t - behind = ap (λ l. length l - behind) seen ∙ ap (λ n. n - behind) long in
     record {
       front = (λ i. take (at i) (seen i)) ∙ take-take (t - behind) t row (omega arith);
       back = ap (λ l. l ++ drop t row) (λ i. drop (at i) (seen i)) ∙ sym (drop-append-le (t - behind) text (drop t row) (omega arith)) ∙ ap (drop (t - behind)) (take-append-drop t row);
     }
 
-module _ (name row extra : List ℕ) (behind : ℕ) (ms : Members) (of : IsObject (seen_of row) (is_long row) ms behind) where
+module _ (most : ℕ) (name row extra : List ℕ) (behind : ℕ) (ms : Members) (of : IsObject (seen_of most row) (is_long most row) ms behind) where
   abbrev front : List ℕ
-  front = take (length (seen_of row) - behind) (seen_of row)
+  front = take (length (seen_of most row) - behind) (seen_of most row)
 
   abbrev back : List ℕ
-  back = drop (length (seen_of row) - behind) (seen_of row)
+  back = drop (length (seen_of most row) - behind) (seen_of most row)
 
   abbrev whole_back : List ℕ
   whole_back = back ++ drop (text_length row) row
 
   brace : Brace back
-  brace = last_brace (seen_of row) behind of.ends
+  brace = last_brace (seen_of most row) behind of.ends
 
   whole_brace : Brace whole_back
   whole_brace = brace_and back (drop (text_length row) row) brace (end_is_space row)
 
   seen_was : document (front ++ back) ≡ Some (object ms)
-  seen_was = ap document (take-append-drop (length (seen_of row) - behind) (seen_of row)) ∙ of.value
+  seen_was = ap document (take-append-drop (length (seen_of most row) - behind) (seen_of most row)) ∙ of.value
 
   pub row_was : document row ≡ Some (object ms)
   row_was =
-      let c = cut row behind of.whole in
+      let c = cut most row behind of.whole in
       ap document (sym (take-append-drop (text_length row - behind) row) ∙ (λ i. sym c.front i ++ sym c.back i)) ∙ object_again front back whole_back ms brace whole_brace seen_was
 
-  pub row_longer : (shown : Members) → extra ≡ comma_behind (is_empty ms) ++ print (key name ∷ json_tokens (object shown)) → tokens (print (key name ∷ json_tokens (object shown))) ≡ key name ∷ json_tokens (object shown) → depth (object shown) < max_depth
-      → document (row_with row extra behind) ≡ Some (object (and_last ms name (object shown)))
-  row_longer shown added read shallow =
-      let c = cut row behind of.whole in
-      ap document (λ i. sym c.front i ++ (added i ++ sym c.back i)) ∙ object_longer front back whole_back ms name (object shown) brace whole_brace seen_was read shallow
+  pub row_longer : (value : Json) → extra ≡ comma_behind (is_empty ms) ++ print (key name ∷ json_tokens value) → tokens (print (key name ∷ json_tokens value)) ≡ key name ∷ json_tokens value → depth value < max_depth
+      → document (row_with row extra behind) ≡ Some (object (and_last ms name value))
+  row_longer value added read shallow =
+      let c = cut most row behind of.whole in
+      ap document (λ i. sym c.front i ++ (added i ++ sym c.back i)) ∙ object_longer front back whole_back ms name value brace whole_brace seen_was read shallow
 
 pub longer_row : LongerRowIsJson
-longer_row db reading path nulls name fields row extra behind =
-    gains db reading path nulls name fields (seen_of row) (is_long row) extra behind row (row_with row extra behind)
-    (λ ms of. row_was name row extra behind ms of) (λ ms shown of. row_longer name row extra behind ms of shown)
+longer_row db reading path nulls name fields most row extra behind =
+    gains db reading path nulls name fields (seen_of most row) (is_long most row) extra behind row (row_with row extra behind)
+    (λ ms of. row_was most name row extra behind ms of) (λ ms value of. row_longer most name row extra behind ms of value)

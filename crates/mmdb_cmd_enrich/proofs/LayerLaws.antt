@@ -118,7 +118,7 @@ added_of_keys dbs rows paths offsets None extra outcome is adds = tt
 added_of_keys dbs rows paths offsets (Some key) extra outcome is adds = added_of_key dbs rows paths offsets key extra outcome is adds
 
 -- what is read in an answer is read in the record of its database
-answer_same : {S : Type 0} {G : Ghosts S ℕ} (db : Database) (answer : Option (LookupResult S G)) (path : List PathElement) → IsAnswerOf db answer → reads_of answer path ≡ reads_in (data_section db) (offset_in answer) path
+pub answer_same : {S : Type 0} {G : Ghosts S ℕ} (db : Database) (answer : Option (LookupResult S G)) (path : List PathElement) → IsAnswerOf db answer → reads_of answer path ≡ reads_in (data_section db) (offset_in answer) path
 answer_same db None path is = refl
 answer_same db (Some found) path is = ap (λ d. reads_in (data_section d) (offset_found found) path) is
 

@@ -13,11 +13,14 @@ use Rattle.mmdb_filter.specs.declared.counts.Outcome.TheVariants.{Failed}
 use Rattle.mmdb_filter.specs.declared.filter.Added.{Added}
 use Rattle.mmdb_cmd_enrich.specs.Layers.{HaveAll, CanAskAny, CanAskNone, AnyRejects, first_read, has_record, IsKey}
 use Rattle.mmdb_cmd_enrich.specs.Fields.{IsNullMemberAfter, network_tokens}
-use Rattle.mmdb_cmd_enrich.specs.LayeredMembers.{AreFront, null_front}
+use Rattle.mmdb_cmd_enrich.specs.LayeredMembers.{AreFront, null_front, nulls_of, reads_by}
 use Rattle.mmdb_cmd_enrich.specs.Networks.{shown_of}
 use Rattle.mmdb_cmd_enrich.specs.Wanted.{MemberOf, layered_member, AddsOf}
 use Rattle.mmdb_cmd_enrich.specs.Members.{PutsMember}
 use Rattle.mmdb_cmd_enrich.specs.Working.{offset_in, AreAnswers, AreAnswersOf, PutsMemberAfter, PutsRead, PutsFound, PutsMemberForAll, PutsToObjectAll}
+use Rattle.mmdb_cmd_enrich.specs.Records.{each_read}
+use Rattle.mmdb_cmd_enrich.specs.declared.members.MemberKind.{MemberKind}
+use Rattle.mmdb_cmd_enrich.specs.declared.members.MemberKind.TheVariants.{Fields, NetworkAndFields, Records}
 use Rattle.mmdb_cmd_enrich.specs.declared.members.NamedField.{NamedField}
 use Rattle.mmdb_cmd_enrich.proofs.LayerLaws.{first_same, keys_same}
 use Rattle.mmdb_cmd_enrich.proofs.MemberLaws.{behind_put}
@@ -46,50 +49,53 @@ pub behind_of : (front : List Token) (reads : List PathElement → Option (Optio
 behind_of front reads name fields line addition old new (text, outcome, inl (is, here), puts) = behind_put line text outcome addition old new (inl here) puts
 behind_of front reads name fields line addition old new (text, outcome, inr (is, none, here), puts) = behind_put line text outcome addition old new (inr here) puts
 
-pub behind_of_read : {S : Type 0} {G : Ghosts S ℕ} (dbs : List Database) (network : Bool) (name : List ℕ) (fields : List NamedField) (line : Line) (answers : List (Option (LookupResult S G))) (addition : Added) (old new : List ℕ)
-    → PutsRead dbs network name fields line answers addition old new → addition.behind ≤ line.behind
-behind_of_read dbs false name fields line answers addition old new puts = behind_of [] (first_read dbs (map offset_in answers)) name fields line addition old new puts
-behind_of_read dbs true name fields line answers addition old new (network, shown, puts) = behind_of (network_tokens network) (first_read dbs (map offset_in answers)) name fields line addition old new puts
+pub behind_of_read : {S : Type 0} {G : Ghosts S ℕ} (dbs : List Database) (kind : MemberKind) (name : List ℕ) (fields : List NamedField) (line : Line) (answers : List (Option (LookupResult S G))) (addition : Added) (old new : List ℕ)
+    → PutsRead dbs kind name fields line answers addition old new → addition.behind ≤ line.behind
+behind_of_read dbs Fields name fields line answers addition old new puts = behind_of [] (first_read dbs (map offset_in answers)) name fields line addition old new puts
+behind_of_read dbs Records name fields line answers addition old new puts = behind_of [] (each_read dbs (map offset_in answers)) name fields line addition old new puts
+behind_of_read dbs NetworkAndFields name fields line answers addition old new (network, shown, puts) = behind_of (network_tokens network) (first_read dbs (map offset_in answers)) name fields line addition old new puts
 
 -- with the network or without, as it is wanted
-pub read_as_wanted : {S : Type 0} {G : Ghosts S ℕ} (dbs : List Database) (network wanted : Bool) (name : List ℕ) (fields : List NamedField) (line : Line) (answers : List (Option (LookupResult S G))) (addition : Added) (old new : List ℕ)
-    → network ≡ wanted → PutsRead dbs wanted name fields line answers addition old new → PutsRead dbs network name fields line answers addition old new
-read_as_wanted dbs network wanted name fields line answers addition old new is puts = subst (λ b. PutsRead dbs b name fields line answers addition old new) (sym is) puts
+pub read_as_wanted : {S : Type 0} {G : Ghosts S ℕ} (dbs : List Database) (kind wanted : MemberKind) (name : List ℕ) (fields : List NamedField) (line : Line) (answers : List (Option (LookupResult S G))) (addition : Added) (old new : List ℕ)
+    → kind ≡ wanted → PutsRead dbs wanted name fields line answers addition old new → PutsRead dbs kind name fields line answers addition old new
+read_as_wanted dbs kind wanted name fields line answers addition old new is puts = subst (λ b. PutsRead dbs b name fields line answers addition old new) (sym is) puts
 
-pub null_as_wanted : (network wanted : Bool) (name : List ℕ) (fields given : List NamedField) (text : List ℕ)
-    → network ≡ wanted → given ≡ fields → IsNullMemberAfter (null_front wanted) name given text → IsNullMemberAfter (null_front network) name fields text
-null_as_wanted network wanted name fields given text is same null =
-    subst (λ fs. IsNullMemberAfter (null_front network) name fs text) same (subst (λ b. IsNullMemberAfter (null_front b) name given text) (sym is) null)
+pub null_as_wanted : (kind wanted : MemberKind) (name : List ℕ) (fields given : List NamedField) (text : List ℕ)
+    → kind ≡ wanted → given ≡ nulls_of wanted fields → IsNullMemberAfter (null_front wanted) name given text → IsNullMemberAfter (null_front kind) name (nulls_of kind fields) text
+null_as_wanted kind wanted name fields given text is same null =
+    subst (λ k. IsNullMemberAfter (null_front k) name (nulls_of k fields) text) (sym is) (subst (λ fs. IsNullMemberAfter (null_front wanted) name fs text) same null)
 
 -- the member of records, after others
-read_put : (dbs : List Database) (network nulls : Bool) (name : List ℕ) (fields : List NamedField) (line : Line) (address : IpAddr) (offsets : List (Option ℕ)) (front : List Token) (addition : Added) (old new : List ℕ)
-    → CanAskAny dbs address → HaveAll dbs address offsets → has_record offsets ≡ true → AreFront dbs network address front → PutsMemberAfter front (first_read dbs offsets) name fields line addition old new
-    → PutsMemberForAll dbs network nulls name fields line (Some address) addition old new
-read_put dbs network nulls name fields line address offsets front addition old new any have there are (text, outcome, inl (is, here), puts) =
+read_put : (dbs : List Database) (kind : MemberKind) (nulls : Bool) (name : List ℕ) (fields : List NamedField) (line : Line) (address : IpAddr) (offsets : List (Option ℕ)) (front : List Token) (addition : Added) (old new : List ℕ)
+    → CanAskAny dbs address → HaveAll dbs address offsets → has_record offsets ≡ true → AreFront dbs kind address front → PutsMemberAfter front (reads_by kind dbs offsets) name fields line addition old new
+    → PutsMemberForAll dbs kind nulls name fields line (Some address) addition old new
+read_put dbs kind nulls name fields line address offsets front addition old new any have there are (text, outcome, inl (is, here), puts) =
     let (o, b, put) = subst (λ x. PutsMember line text x addition old new) here puts in
     (comma_behind line.is_empty ++ text, inr (any, offsets, have, inr (inr (there, front, text, are, is, refl, b, o))), put)
-read_put dbs network nulls name fields line address offsets front addition old new any have there are (text, outcome, inr (rejected, none, here), puts) =
+read_put dbs kind nulls name fields line address offsets front addition old new any have there are (text, outcome, inr (rejected, none, here), puts) =
     let (o, b, put) = subst (λ x. PutsMember line text x addition old new) here puts in
     ([], inr (any, offsets, have, inr (inl (there, refl, o, rejected))), put ∙ sym (append-nil old))
 
 -- what is added for the records of an address
-pub all_put : {S : Type 0} {G : Ghosts S ℕ} (dbs : List Database) (network nulls : Bool) (name : List ℕ) (fields : List NamedField) (line : Line) (address : IpAddr) (answers : List (Option (LookupResult S G))) (addition : Added) (old new : List ℕ)
-    → CanAskAny dbs address → AreAnswers dbs address answers → PutsFound dbs network nulls name fields line answers addition old new → PutsMemberForAll dbs network nulls name fields line (Some address) addition old new
-all_put dbs network nulls name fields line address answers addition old new any (are, have, shows) (inl (none, (o, (extra, adds, put)))) = (extra, inr (any, map offset_in answers, have, inl (none, o, adds)), put)
-all_put dbs false nulls name fields line address answers addition old new any (are, have, shows) (inr (there, puts)) =
-    read_put dbs false nulls name fields line address (map offset_in answers) [] addition old new any have there refl puts
-all_put dbs true nulls name fields line address answers addition old new any (are, have, shows) (inr (there, (network, (networks, these, is), puts))) =
-    read_put dbs true nulls name fields line address (map offset_in answers) (network_tokens network) addition old new any have there
+pub all_put : {S : Type 0} {G : Ghosts S ℕ} (dbs : List Database) (kind : MemberKind) (nulls : Bool) (name : List ℕ) (fields : List NamedField) (line : Line) (address : IpAddr) (answers : List (Option (LookupResult S G))) (addition : Added) (old new : List ℕ)
+    → CanAskAny dbs address → AreAnswers dbs address answers → PutsFound dbs kind nulls name fields line answers addition old new → PutsMemberForAll dbs kind nulls name fields line (Some address) addition old new
+all_put dbs kind nulls name fields line address answers addition old new any (are, have, shows) (inl (none, (o, (extra, adds, put)))) = (extra, inr (any, map offset_in answers, have, inl (none, o, adds)), put)
+all_put dbs Fields nulls name fields line address answers addition old new any (are, have, shows) (inr (there, puts)) =
+    read_put dbs Fields nulls name fields line address (map offset_in answers) [] addition old new any have there refl puts
+all_put dbs Records nulls name fields line address answers addition old new any (are, have, shows) (inr (there, puts)) =
+    read_put dbs Records nulls name fields line address (map offset_in answers) [] addition old new any have there refl puts
+all_put dbs NetworkAndFields nulls name fields line address answers addition old new any (are, have, shows) (inr (there, (network, (networks, these, is), puts))) =
+    read_put dbs NetworkAndFields nulls name fields line address (map offset_in answers) (network_tokens network) addition old new any have there
     (networks, shows networks these, ap network_tokens (is ∙ ap (λ h. shown_of h networks) there)) puts
 
 -- an address that is rejected
-pub all_rejected : (dbs : List Database) (network nulls : Bool) (name : List ℕ) (fields : List NamedField) (line : Line) (address : IpAddr) (addition : Added) (old : List ℕ)
-    → CanAskNone dbs address ⊎ AnyRejects dbs address → addition.outcome ≡ Failed → PutsMemberForAll dbs network nulls name fields line (Some address) addition old old
-all_rejected dbs network nulls name fields line address addition old why o = ([], inl (why, refl, o), sym (append-nil old))
+pub all_rejected : (dbs : List Database) (kind : MemberKind) (nulls : Bool) (name : List ℕ) (fields : List NamedField) (line : Line) (address : IpAddr) (addition : Added) (old : List ℕ)
+    → CanAskNone dbs address ⊎ AnyRejects dbs address → addition.outcome ≡ Failed → PutsMemberForAll dbs kind nulls name fields line (Some address) addition old old
+all_rejected dbs kind nulls name fields line address addition old why o = ([], inl (why, refl, o), sym (append-nil old))
 
 -- what an object is given by its address
-pub object_put_all : (dbs : List Database) (network nulls : Bool) (name : List ℕ) (fields : List NamedField) (line : Line) (address : Option IpAddr) (addition : Added) (old new : List ℕ) → line.is_taken ≡ false → line.address ≡ address
-    → PutsMemberForAll dbs network nulls name fields line address addition old new → PutsToObjectAll dbs network nulls name fields line addition old new
-object_put_all dbs network nulls name fields line address addition old new free is puts =
-    let (extra, adds, put) = subst (λ a. PutsMemberForAll dbs network nulls name fields line a addition old new) (sym is) puts in
+pub object_put_all : (dbs : List Database) (kind : MemberKind) (nulls : Bool) (name : List ℕ) (fields : List NamedField) (line : Line) (address : Option IpAddr) (addition : Added) (old new : List ℕ) → line.is_taken ≡ false → line.address ≡ address
+    → PutsMemberForAll dbs kind nulls name fields line address addition old new → PutsToObjectAll dbs kind nulls name fields line addition old new
+object_put_all dbs kind nulls name fields line address addition old new free is puts =
+    let (extra, adds, put) = subst (λ a. PutsMemberForAll dbs kind nulls name fields line a addition old new) (sym is) puts in
     (extra, put, inr (free, adds))

@@ -1,9 +1,14 @@
 mod CellLaws
+mod EscapeLaws
+mod ShownLaws
+mod RecordLaws
 mod CellRunLaws
 mod KeptLaws
 mod KeptReadLaws
 mod ColumnLaws
+mod BreakLaws
 mod AddedLaws
+mod AddedRowLaws
 mod NetworkLaws
 mod LayerLaws
 mod AheadLaws

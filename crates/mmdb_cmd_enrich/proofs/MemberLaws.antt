@@ -1,8 +1,8 @@
 -- Members, one after another.
-use Rattle.std.proofs.Common.{◌≡◌, ℕ, zero, suc, List, [], ◌∷◌, ◌++◌, Option, Some, None, option_map, MatchOption, ◌⊎◌, ◌≤◌, arith, IfSome, IfNone, Bool, true, false, inl, inr, subst, refl, sym, ap, ◌∙◌, drop, append_assoc, append-nil}
+use Rattle.std.proofs.Common.{◌≡◌, ℕ, zero, suc, List, [], ◌∷◌, ◌++◌, Option, Some, None, option_map, MatchOption, ◌⊎◌, ◌<◌, ◌≤◌, length, arith, IfSome, IfNone, Bool, true, false, inl, inr, subst, refl, sym, ap, ◌∙◌, drop, append_assoc, append-nil}
 use Rattle.std.specs.Global.{Vec}
 use Rattle.std.specs.declared.net.ip_addr.IpAddr.{IpAddr}
-use Rattle.json.specs.Token.{Token, key, null}
+use Rattle.json.specs.Token.{Token, key, null, begin_object, end_object}
 use Rattle.json.specs.Tree.{json_tokens}
 use Rattle.mmdb_format.specs.Error.{MemoryApart, kind_of, OfInput, OfDatabase}
 use Rattle.mmdb_format.specs.Unfolding.{Tree}
@@ -19,10 +19,10 @@ use Rattle.mmdb_filter.specs.declared.counts.Outcome.{Outcome}
 use Rattle.mmdb_filter.specs.declared.counts.Outcome.TheVariants.{Found, Absent, Failed}
 use Rattle.mmdb_filter.specs.declared.filter.Added.{Added}
 use Rattle.mmdb_layout.specs.Reading.{reads_in}
-use Rattle.mmdb_cmd_enrich.specs.Fields.{AreValue, AreFields, HasUnreadField, IsMemberAfter, IsNullMemberAfter}
+use Rattle.mmdb_cmd_enrich.specs.Fields.{AreValue, AreFields, AreValues, HasUnreadField, IsUnread, IsMemberAfter, IsNullMemberAfter, null_fields, null_values, object_tokens}
 use Rattle.mmdb_cmd_enrich.specs.Members.{HasUnreadMember, PutsMember, PutsText}
 use Rattle.mmdb_objects.specs.Longer.{comma_behind}
-use Rattle.mmdb_cmd_enrich.specs.Working.{PutsValue, PutsMemberFor, PutsNone, PutsNoneAfter, PutsToObject}
+use Rattle.mmdb_cmd_enrich.specs.Working.{PutsValue, PutsWhole, PutsFieldsAfter, PutsValuesAfter, PutsMemberFor, PutsNone, PutsNoneAfter, PutsToObject}
 use Rattle.mmdb_cmd_enrich.specs.Asked.{AsksIfAny}
 use Rattle.mmdb_cmd_enrich.specs.Wanted.{MemberAfter, MemberOf}
 use Rattle.mmdb_cmd_enrich.specs.declared.members.NamedField.{NamedField}
@@ -72,11 +72,30 @@ declined (ResourceLimit message o path) answer P goes r = goes r
 declined (InvalidNetwork cause) answer P goes r = goes r
 declined (InvalidInput message) answer P goes r = goes r
 
+-- a member with all that is read, without a field, and one with fields
+pub whole_values : (front : List Token) (reads : List PathElement → Option (Option Tree)) (name : List ℕ) (fields : List NamedField) (old new : List Token)
+    → length fields ≡ 0 → PutsWhole reads name old new → PutsValuesAfter front reads name fields old new
+whole_values front reads name [] old new none (value, is, put) = (value, is, put)
+whole_values front reads name (field ∷ fields) old new none puts = absurd (omega (arith, none))
+
+pub fields_values : (front : List Token) (reads : List PathElement → Option (Option Tree)) (name : List ℕ) (fields : List NamedField) (old new : List Token)
+    → 0 < length fields → PutsFieldsAfter front reads name fields old new → PutsValuesAfter front reads name fields old new
+fields_values front reads name [] old new some puts = absurd (omega (arith, some))
+fields_values front reads name (field ∷ fields) old new some (tokens, are, put) = (object_tokens (front ++ tokens), (tokens, are, refl), put)
+
+pub whole_unread : (reads : List PathElement → Option (Option Tree)) (fields : List NamedField) (e : MaxMindDbError) → length fields ≡ 0 → Fails false e (reads []) → MemoryApart e (IsUnread reads fields)
+whole_unread reads [] e none fails = declined e (reads []) (reads [] ≡ None) (λ is. is) fails
+whole_unread reads (field ∷ fields) e none fails = absurd (omega (arith, none))
+
+pub fields_unread : (reads : List PathElement → Option (Option Tree)) (fields : List NamedField) (e : MaxMindDbError) → 0 < length fields → MemoryApart e (HasUnreadField reads fields) → MemoryApart e (IsUnread reads fields)
+fields_unread reads [] e some why = absurd (omega (arith, some))
+fields_unread reads (field ∷ fields) e some why = why
+
 -- the member of what was read, after others, or that a field can't be read
 pub member_kept : (front : List Token) (reads others : List PathElement → Option (Option Tree)) (name : List ℕ) (fields : List NamedField) (member : Option (Vec ℕ)) (cells : List ℕ) (outcome : Outcome)
     → reads ≡ others
     → IfSome member (λ text. IsMemberAfter front reads name fields text.items)
-    → IfNone member (HasUnreadField reads fields)
+    → IfNone member (IsUnread reads fields)
     → MatchOption member ((cells ≡ []) × (outcome ≡ Failed)) (λ text. (cells ≡ text.items) × (outcome ≡ Found))
     → MemberAfter front others name fields cells outcome
 member_kept front reads others name fields None cells outcome same some none kept =
@@ -139,3 +158,18 @@ address_rejected db fields address e (inr is) ask at = inr (inl (at is))
 pub object_put : (db : Database) (nulls : Bool) (name : List ℕ) (fields : List NamedField) (line : Line) (asked : Option IpAddr) (addition : Added) (old new : List ℕ) → line.is_taken ≡ false
     → AsksIfAny db line.address asked → PutsMemberFor db nulls name fields line asked addition old new → PutsToObject db nulls name fields line addition old new
 object_put db nulls name fields line asked addition old new free asks (extra, adds, put) = (extra, put, inr (free, asked, asks, adds))
+
+-- `null` without a field, and an object of fields that are
+pub null_whole : (front : List Token) (fields : List NamedField) (old new : List Token) → length fields ≡ 0 → new ≡ old ++ null ∷ [] → new ≡ old ++ null_values front fields
+null_whole front [] old new none put = put
+null_whole front (field ∷ fields) old new none put = absurd (omega (arith, none))
+
+pub null_object : (front : List Token) (fields : List NamedField) (old begun fronted named new : List Token) → 0 < length fields
+    → begun ≡ old ++ begin_object ∷ [] → fronted ≡ begun ++ front → named ≡ fronted ++ null_fields fields → new ≡ named ++ end_object ∷ [] → new ≡ old ++ null_values front fields
+null_object front [] old begun fronted named new some begins fronts names ends = absurd (omega (arith, some))
+null_object front (field ∷ fields) old begun fronted named new some begins fronts names ends =
+    ends ∙ ap (λ t. t ++ end_object ∷ []) (names ∙ ap (λ t. t ++ null_fields (field ∷ fields)) (fronts ∙ ap (λ t. t ++ front) begins))
+    ∙ append_assoc ((old ++ begin_object ∷ []) ++ front) (null_fields (field ∷ fields)) (end_object ∷ [])
+    ∙ append_assoc (old ++ begin_object ∷ []) front (null_fields (field ∷ fields) ++ end_object ∷ [])
+    ∙ append_assoc old (begin_object ∷ []) (front ++ (null_fields (field ∷ fields) ++ end_object ∷ []))
+    ∙ ap (λ t. old ++ (begin_object ∷ t)) (sym (append_assoc front (null_fields (field ∷ fields)) (end_object ∷ [])))

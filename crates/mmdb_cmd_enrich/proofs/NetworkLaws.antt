@@ -95,7 +95,7 @@ front_added dbs true rows address answers front all is =
 -- what is added for answers, behind what comes before the fields
 pub found_added : {S : Type 0} {G : Ghosts S ℕ} (dbs : List Database) (wanted : Bool) (rows : Rows) (fields : Vec (Vec PathElement)) (address : IpAddr) (answers : List (Option (LookupResult S G))) (outcome : Outcome) (old middle new : Vec ℕ)
     → CanAskAny dbs address → AreAnswers dbs address answers → PutsFrontOf wanted rows answers old.items middle.items → AddsAtAllTo dbs rows fields (map offset_in answers) outcome middle new
-    → AddsForAllTo dbs wanted rows fields (Some address) outcome old new
+    → AddsForAllTo dbs wanted rows fields address outcome old new
 found_added dbs wanted rows fields address answers outcome old middle new can all put adds =
     let (front, is, ahead) = put in
     let (cells, at, behind) = adds in (

@@ -5,19 +5,21 @@ use Rattle.std.proofs.lemmas.Bool.{cases_lt, eqb-true, ne_eqb}
 use Rattle.std.proofs.lemmas.List.{get_or-take, length-take-le, take-take, take_all}
 use Rattle.std.proofs.lemmas.List.Sums.{prefix_len_is, prefix_len_passes, prefix_len_stops, prefix_len-le-length}
 use Rattle.std.specs.List.{prefix_len}
+use Rattle.std.specs.Option.{option_or}
 use Rattle.std.specs.Borrow.{Bor}
 use Rattle.std.specs.declared.net.ip_addr.IpAddr.{IpAddr}
 use Rattle.mmdb_addresses.specs.Addresses.{ReadsAddress}
 use Rattle.mmdb_addresses.specs.Bytes.{is_blank, ends_word}
-use Rattle.mmdb_addresses.specs.Cells.{first_word, unquoted}
+use Rattle.mmdb_addresses.specs.Cells.{first_word, unquoted, whole_words}
 use Rattle.mmdb_addresses.specs.Words.{IsWord}
 use Rattle.mmdb_addresses.specs.declared.readings.Reading.{Reading}
-use Rattle.mmdb_addresses.specs.declared.readings.Reading.TheVariants.{First}
+use Rattle.mmdb_addresses.specs.declared.readings.Reading.TheVariants.{Exact, First, Last, Anywhere, LastAnywhere}
 use Rattle.mmdb_filter.specs.Runs.{is_neither}
 use Rattle.mmdb_filter.specs.declared.rows.RowPosition.TheVariants.{Cell}
 use Rattle.mmdb_filter.specs.declared.rows.Rows.{Rows}
 use Rattle.mmdb_filter.specs.declared.rows.Rows.TheVariants.{Lines}
-use Rattle.mmdb_cmd_enrich.specs.Columns.{cell_length, column_of, value_of}
+use Rattle.mmdb_cmd_enrich.specs.Asked.{cell_read}
+use Rattle.mmdb_cmd_enrich.specs.Columns.{cell_length, column_of, value_of, ended_cell, begun_cell}
 use Rattle.mmdb_cmd_enrich.proofs.ColumnLaws.{whole_column}
 
 abbrev pub in_word : ℕ → Bool
@@ -145,12 +147,40 @@ no_blank d text some tab =
 -- what is read of the front is read of the cell
 pub front_reads : (rows : Rows) (reading : Reading) (d column : ℕ) (goes_on : Bool) (row : List ℕ) (front : Option (Bor (List ℕ))) → rows ≡ Lines d → reading ≡ First → column ≡ 0 → goes_on ≡ false
     → IfSome front (λ f. first_word f.now ≡ first_word (take (cell_length (Lines d) Cell row) row))
-    → IfSome front (λ f. (found : Option IpAddr) → ReadsAddress reading (Some f.now) found → ReadsAddress reading (option_map (value_of rows) (column_of rows goes_on column row)) found)
+    → IfSome front (λ f. (found : Option IpAddr) → ReadsAddress reading (Some f.now) found → ReadsAddress reading (cell_read rows reading column row goes_on) found)
 front_reads rows reading d column goes_on row None lines first here whole same = tt
 front_reads rows reading d column goes_on row (Some f) lines first here whole same = λ found.
-    subst (λ (r : Reading). ReadsAddress r (Some f.now) found → ReadsAddress r (option_map (value_of rows) (column_of rows goes_on column row)) found) (sym first)
+    subst (λ (r : Reading). ReadsAddress r (Some f.now) found → ReadsAddress r (cell_read rows r column row goes_on) found) (sym first)
     (λ (reads : ReadsAddress First (Some f.now) found).
-    subst (λ (r : Rows). ReadsAddress First (option_map (value_of r) (column_of r goes_on column row)) found) (sym lines)
-    (subst (λ b. ReadsAddress First (option_map (value_of (Lines d)) (column_of (Lines d) b column row)) found) (sym whole)
+    subst (λ (r : Rows). ReadsAddress First (begun_cell r goes_on column row) found) (sym lines)
+    (subst (λ b. ReadsAddress First (begun_cell (Lines d) b column row) found) (sym whole)
     (subst (λ (cell : Option (List ℕ)). ReadsAddress First (option_map (value_of (Lines d)) cell) found) (sym (whole_column (Lines d) column (cell_length (Lines d) Cell row) row here refl))
     (reads_same f.now (take (cell_length (Lines d) Cell row) row) same found reads))))
+
+-- what is read of a cell that is seen whole
+pub whole_read : (rows : Rows) (reading : Reading) (column : ℕ) (row : List ℕ) → ended_cell rows false column row ≡ cell_read rows reading column row false
+whole_read rows Exact column row = refl
+whole_read rows First column row = refl
+whole_read rows Last column row = refl
+whole_read rows Anywhere column row = refl
+whole_read rows LastAnywhere column row = refl
+
+-- and of one of a longer row
+pub ended_read : (rows : Rows) (reading : Reading) (column : ℕ) (row cell : List ℕ) → ended_cell rows true column row ≡ Some cell → Some cell ≡ cell_read rows reading column row true
+ended_read rows Exact column row cell is = sym is
+ended_read rows First column row cell is = sym (ap (λ c. option_or c (option_map whole_words (column_of rows false column row))) is)
+ended_read rows Last column row cell is = sym is
+ended_read rows Anywhere column row cell is = sym is
+ended_read rows LastAnywhere column row cell is = sym is
+
+pub begun_read : (rows : Rows) (reading : Reading) (column : ℕ) (row : List ℕ) (cell : Option (List ℕ)) → reading ≡ First → ended_cell rows true column row ≡ None → cell ≡ column_of rows false column row
+    → option_map whole_words cell ≡ cell_read rows reading column row true
+begun_read rows reading column row cell first none is =
+    ap (option_map whole_words) is ∙ (sym (ap (λ c. option_or c (option_map whole_words (column_of rows false column row))) none) ∙ ap (λ r. cell_read rows r column row true) (sym first))
+
+pub other_read : (rows : Rows) (reading : Reading) (column : ℕ) (row : List ℕ) → (reading ≡ First → ⊥) → ended_cell rows true column row ≡ None → None ≡ cell_read rows reading column row true
+other_read rows Exact column row other none = sym none
+other_read rows First column row other none = absurd (other refl)
+other_read rows Last column row other none = sym none
+other_read rows Anywhere column row other none = sym none
+other_read rows LastAnywhere column row other none = sym none

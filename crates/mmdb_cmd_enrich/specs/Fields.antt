@@ -1,4 +1,4 @@
--- The member of an object that fields make, each of what is read along its path.
+-- The member of an object that fields make, each of what is read along its path, or all that is read where there is none.
 use Rattle.std.specs.Prelude.{◌≡◌, ◌⊎◌, ℕ, List, [], ◌∷◌, ◌++◌, Option, Some, None, codes}
 use Rattle.json.specs.Json.{Json}
 use Rattle.json.specs.Lex.{tokens as tokens_read}
@@ -34,29 +34,43 @@ abbrev pub HasUnreadField : (List PathElement → Option (Option Tree)) → List
 HasUnreadField reads [] = ⊥
 HasUnreadField reads (field ∷ fields) = (reads field.path.items ≡ None) ⊎ HasUnreadField reads fields
 
--- a name, and an object of these members
-abbrev pub member_tokens : List ℕ → List Token → List Token
-member_tokens name tokens = key name ∷ (begin_object ∷ (tokens ++ end_object ∷ []))
+-- the way to a field, or its value, can't be read; without a field what is read whole can't be
+abbrev pub IsUnread : (List PathElement → Option (Option Tree)) → List NamedField → Type 0
+IsUnread reads [] = reads [] ≡ None
+IsUnread reads (field ∷ fields) = HasUnreadField reads (field ∷ fields)
+
+-- an object of these members
+abbrev pub object_tokens : List Token → List Token
+object_tokens tokens = begin_object ∷ (tokens ++ end_object ∷ [])
+
+-- The value of a member: an object of the fields after other members, or, without a field, all that is read.
+abbrev pub AreValues : List Token → (List PathElement → Option (Option Tree)) → List NamedField → List Token → Type 0
+AreValues front reads [] value = AreValue (reads []) value
+AreValues front reads (field ∷ fields) value = (tokens : List Token) × AreFields reads (field ∷ fields) tokens × (value ≡ object_tokens (front ++ tokens))
+
+-- the same where everything is null
+abbrev pub null_values : List Token → List NamedField → List Token
+null_values front [] = null ∷ []
+null_values front (field ∷ fields) = object_tokens (front ++ null_fields (field ∷ fields))
 
 -- the member of a network, `null` where there is none
 abbrev pub network_tokens : Option IpNetwork → List Token
 network_tokens None = key (codes "network") ∷ (null ∷ [])
 network_tokens (Some network) = key (codes "network") ∷ (string (short_text_of network) ∷ [])
 
--- the text of a member with other members before the fields: its name, and an object; a reader gets their tokens back
+-- the text of a member with other members before the fields: its name and its value; a reader gets their tokens back
 abbrev pub IsMemberAfter : List Token → (List PathElement → Option (Option Tree)) → List ℕ → List NamedField → List ℕ → Type 0
 IsMemberAfter front reads name fields text =
-    (tokens : List Token) × AreFields reads fields tokens × (text ≡ print (member_tokens name (front ++ tokens)))
-    × (tokens_read text ≡ member_tokens name (front ++ tokens))
+    (value : List Token) × AreValues front reads fields value × (text ≡ print (key name ∷ value)) × (tokens_read text ≡ key name ∷ value)
 
 -- the same with fields alone
 abbrev pub IsMember : (List PathElement → Option (Option Tree)) → List ℕ → List NamedField → List ℕ → Type 0
 IsMember reads name fields text = IsMemberAfter [] reads name fields text
 
--- the text of a member with fields that are all null after other members; a reader gets its tokens back
+-- the text of a member of which everything is null, after other members; a reader gets its tokens back
 abbrev pub IsNullMemberAfter : List Token → List ℕ → List NamedField → List ℕ → Type 0
 IsNullMemberAfter front name fields text =
-    (text ≡ print (member_tokens name (front ++ null_fields fields))) × (tokens_read text ≡ member_tokens name (front ++ null_fields fields))
+    (text ≡ print (key name ∷ null_values front fields)) × (tokens_read text ≡ key name ∷ null_values front fields)
 
 -- the same with fields alone
 abbrev pub IsNullMember : List ℕ → List NamedField → List ℕ → Type 0

@@ -12,6 +12,8 @@ use Rattle.mmdb_filter.specs.declared.counts.Outcome.TheVariants.{Found, Absent,
 use Rattle.mmdb_addresses.specs.declared.readings.Reading.{Reading}
 use Rattle.mmdb_cmd_enrich.specs.Asked.{Asks, ReadsRow}
 use Rattle.mmdb_cmd_enrich.specs.Cells.{AreCells, are_read}
+use Rattle.mmdb_cmd_enrich.specs.Added.{blanks_after}
+use Rattle.mmdb_cmd_enrich.specs.Columns.{IsPadding}
 use Rattle.mmdb_cmd_enrich.specs.Networks.{AddsFront, all_blanks}
 use Rattle.mmdb_layout.specs.Reading.{reads_in, or_next}
 
@@ -67,20 +69,26 @@ abbrev pub AddsAtAll : List Database → Rows → List (List PathElement) → Li
 AddsAtAll dbs rows paths offsets extra outcome =
     AreCells rows (first_read dbs offsets) paths extra × (outcome ≡ outcome_of (has_record offsets) (are_read (first_read dbs offsets) paths))
 
--- Those of the records of an address, with its network before them where that is wanted; empty ones where there is no
--- address, no database can be asked for it, or the lookup fails in one of them.
-abbrev pub AddsForAll : List Database → Bool → Rows → List (List PathElement) → Option IpAddr → List ℕ → Outcome → Type 0
-AddsForAll dbs network rows paths None extra outcome = (extra ≡ all_blanks network rows paths) × (outcome ≡ Unreadable)
-AddsForAll dbs network rows paths (Some address) extra outcome =
+-- Those of the records of an address, with its network before them where that is wanted; empty ones where no database can be
+-- asked for it, or the lookup fails in one of them.
+abbrev pub AddsForAll : List Database → Bool → Rows → List (List PathElement) → IpAddr → List ℕ → Outcome → Type 0
+AddsForAll dbs network rows paths address extra outcome =
     ((CanAskNone dbs address ⊎ AnyRejects dbs address) × (extra ≡ all_blanks network rows paths) × (outcome ≡ Failed))
     ⊎ (CanAskAny dbs address × (offsets : List (Option ℕ)) × HaveAll dbs address offsets
     × (front cells : List ℕ) × (extra ≡ front ++ cells)
     × AddsFront dbs network rows address (has_record offsets) front × AddsAtAll dbs rows paths offsets cells outcome)
 
--- those of the address in the row, of which such a text is seen, that may go on
-abbrev pub AddsToAll : List Database → Bool → Rows → Reading → ℕ → List (List PathElement) → List ℕ → Bool → List ℕ → Outcome → Type 0
-AddsToAll dbs network rows reading column paths text goes_on extra outcome =
-    (address : Option IpAddr) × ReadsRow rows reading column text goes_on address × AddsForAll dbs network rows paths address extra outcome
+-- the same where there is an address; empty cells where there is none
+abbrev pub AddsIfAnyAll : List Database → Bool → Rows → List (List PathElement) → List ℕ → Option IpAddr → List ℕ → Outcome → Type 0
+AddsIfAnyAll dbs network rows paths text None extra outcome = (extra ≡ blanks_after text (all_blanks network rows paths)) × (outcome ≡ Unreadable)
+AddsIfAnyAll dbs network rows paths text (Some address) extra outcome = AddsForAll dbs network rows paths address extra outcome
+
+-- those of the address in the row, of which such a text is seen, that may go on, after the delimiters that it lacks where
+-- the first row has so many
+abbrev pub AddsToAll : List Database → Bool → Rows → Reading → ℕ → Option ℕ → List (List PathElement) → List ℕ → Bool → List ℕ → Outcome → Type 0
+AddsToAll dbs network rows reading column breaks paths text goes_on extra outcome =
+    (address : Option IpAddr) × (padding cells : List ℕ) × ReadsRow rows reading column text goes_on address
+    × IsPadding rows breaks text goes_on padding × AddsIfAnyAll dbs network rows paths text address cells outcome × (extra ≡ padding ++ cells)
 
 -- the digit of a number that says where a database has a record
 abbrev pub digit_of : Option ℕ → ℕ

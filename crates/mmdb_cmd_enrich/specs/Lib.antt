@@ -7,6 +7,7 @@ pub mod Networks
 pub mod Layers
 pub mod Fields
 pub mod Members
+pub mod Records
 pub mod LayeredMembers
 pub mod Wanted
 pub mod KeptCells

@@ -28,9 +28,14 @@ AreShown reads (field ∷ fields) shown =
     (j : Json) × (rest : Members) × (shown ≡ member field.name.now j rest) × AreValue (reads field.path.items) (json_tokens j)
     × AreShown reads fields rest
 
+-- A value that is shown: an object of the fields, or, without a field, JSON that shows all that is read.
+abbrev pub IsShown : (List PathElement → Option (Option Tree)) → List NamedField → Json → Type 0
+IsShown reads [] value = AreValue (reads []) (json_tokens value)
+IsShown reads (field ∷ fields) value = (shown : Members) × AreShown reads (field ∷ fields) shown × (value ≡ object shown)
+
 -- A line is an object, in which the path leads to an address. What is added is the text of a member, whose value is
--- an object of the fields of that address's record. The longer line is the object with that member after its own,
--- where the value nests less deep than a reader goes.
+-- an object of the fields of that address's record, or all of it. The longer line is the object with that member after its
+-- own, where the value nests less deep than a reader goes.
 pub record GainsMember (db : Database) (reading : Reading) (path : List PathStep) (name : List ℕ) (fields : List NamedField)
     (line extra longer : List ℕ) : Type 0 where
   pub members : Members
@@ -43,10 +48,10 @@ pub record GainsMember (db : Database) (reading : Reading) (path : List PathStep
   pub leaf : List Bool
   pub offset : ℕ
   pub answers : Answers db asked leaf (outcome_at (Some offset))
-  pub shown : Members
-  pub shows : AreShown (reads_in (data_section db) (Some offset)) fields shown
-  pub added : extra ≡ comma_behind (is_empty members) ++ print (key name ∷ json_tokens (object shown))
-  pub becomes : depth (object shown) < max_depth → document longer ≡ Some (object (and_last members name (object shown)))
+  pub value : Json
+  pub shows : IsShown (reads_in (data_section db) (Some offset)) fields value
+  pub added : extra ≡ comma_behind (is_empty members) ++ print (key name ∷ json_tokens value)
+  pub becomes : depth value < max_depth → document longer ≡ Some (object (and_last members name value))
 
 -- Where a member is added to a text, the text gains it.
 abbrev pub LongerTextIsJson : Type 0
@@ -58,6 +63,6 @@ LongerTextIsJson =
 -- The same of a row with its end, as a filter writes it.
 abbrev pub LongerRowIsJson : Type 0
 LongerRowIsJson =
-    (db : Database) (reading : Reading) (path : List PathStep) (nulls : Bool) (name : List ℕ) (fields : List NamedField) (row extra : List ℕ) (behind : ℕ)
-    → AddsMember db reading path nulls name fields (seen_of row) (is_long row) extra behind Found
+    (db : Database) (reading : Reading) (path : List PathStep) (nulls : Bool) (name : List ℕ) (fields : List NamedField) (most : ℕ) (row extra : List ℕ) (behind : ℕ)
+    → AddsMember db reading path nulls name fields (seen_of most row) (is_long most row) extra behind Found
     → GainsMember db reading path name fields row extra (row_with row extra behind)

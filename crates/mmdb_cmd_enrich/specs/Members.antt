@@ -1,16 +1,17 @@
--- What is added to a line that is an object: a member with the fields of the record of the address in it.
-use Rattle.std.specs.Prelude.{◌≡◌, ◌⊎◌, ℕ, List, [], ◌++◌, Option, Some, None, Bool, true, false}
+-- What is added to a line that is an object: a member with the fields of the record of the address in it, or all of it.
+use Rattle.std.specs.Prelude.{◌≡◌, ◌⊎◌, ℕ, ◌<◌, List, [], ◌++◌, length, Option, Some, None, Bool, true, false, if◌then◌else◌}
 use Rattle.std.specs.declared.net.ip_addr.IpAddr.{IpAddr}
 use Rattle.json.specs.Json.{Members, object}
 use Rattle.json.specs.Token.{Token}
 use Rattle.mmdb_reader.specs.File.{Database, data_section}
 use Rattle.mmdb_reader.specs.Lookup.{CanAsk, IsInvalidAt, Answers, outcome_at}
+use Rattle.mmdb_filter.specs.Lines.{most_seen}
 use Rattle.mmdb_filter.specs.declared.counts.Outcome.{Outcome}
-use Rattle.mmdb_filter.specs.declared.counts.Outcome.TheVariants.{Found, Absent, Unreadable, Malformed, Failed, Occupied}
+use Rattle.mmdb_filter.specs.declared.counts.Outcome.TheVariants.{Found, Absent, Unreadable, Malformed, TooLong, Failed, Occupied}
 use Rattle.mmdb_addresses.specs.Addresses.{ReadsAddress}
 use Rattle.mmdb_addresses.specs.declared.readings.Reading.{Reading}
 use Rattle.mmdb_cmd_enrich.specs.Asked.{AsksIfAny}
-use Rattle.mmdb_cmd_enrich.specs.Fields.{IsMember, IsNullMemberAfter, HasUnreadField}
+use Rattle.mmdb_cmd_enrich.specs.Fields.{IsMember, IsNullMemberAfter, IsUnread}
 use Rattle.mmdb_layout.specs.Reading.{reads_in}
 use Rattle.mmdb_objects.specs.Longer.{comma_behind}
 use Rattle.mmdb_objects.specs.Objects.{IsObject, text_along, has_member, is_empty}
@@ -23,9 +24,9 @@ use Rattle.mmdb_filter.specs.declared.filter.Added.{Added}
 abbrev pub HasUnreadMember : Database → List NamedField → IpAddr → Type 0
 HasUnreadMember db fields address =
     (¬ CanAsk db address) ⊎ (IsInvalidAt db address
-    ⊎ ((leaf : List Bool) × (offset : ℕ) × Answers db address leaf (outcome_at (Some offset)) × HasUnreadField (reads_in (data_section db) (Some offset)) fields))
+    ⊎ ((leaf : List Bool) × (offset : ℕ) × Answers db address leaf (outcome_at (Some offset)) × IsUnread (reads_in (data_section db) (Some offset)) fields))
 
--- For an object without a record nothing is added, or, where that is wanted, a member of which each field is null, after others.
+-- For an object without a record nothing is added, or, where that is wanted, a member of which everything is null, after others.
 abbrev pub AddsNoneAfter : List Token → Bool → List ℕ → List NamedField → Bool → ℕ → List ℕ → ℕ → Type 0
 AddsNoneAfter front false name fields empty at extra behind = extra ≡ []
 AddsNoneAfter front true name fields empty at extra behind =
@@ -52,12 +53,21 @@ AddsToObject db reading path nulls name fields members at extra behind outcome =
     ⊎ ((has_member name members ≡ false) × (address asked : Option IpAddr) × ReadsAddress reading (text_along path (object members)) address
     × AsksIfAny db address asked × AddsMemberFor db nulls name fields (is_empty members) at asked extra behind outcome)
 
--- Nothing is added to a line that is no object.
+-- how many bytes of an object are seen at most
+abbrev pub object_most : Bool → ℕ
+object_most reads_long = if reads_long then 1048576 else most_seen
+
+-- A line is too long: it goes on, or it has more bytes than are mostly seen.
+abbrev pub IsTooLong : List ℕ → Bool → Type 0
+IsTooLong text goes_on = (goes_on ≡ true) ⊎ (most_seen < length text)
+
+-- Nothing is added to a line that is too long, or no object.
 abbrev pub AddsMember : Database → Reading → List PathStep → Bool → List ℕ → List NamedField → List ℕ → Bool → List ℕ → ℕ → Outcome → Type 0
 AddsMember db reading path nulls name fields text goes_on extra behind outcome =
     ((extra ≡ []) × (outcome ≡ Malformed) × ((members : Members) (at : ℕ) → ¬ IsObject text goes_on members at))
+    ⊎ (((extra ≡ []) × (outcome ≡ TooLong) × IsTooLong text goes_on)
     ⊎ ((members : Members) × (at : ℕ) × IsObject text goes_on members at
-    × AddsToObject db reading path nulls name fields members at extra behind outcome)
+    × AddsToObject db reading path nulls name fields members at extra behind outcome))
 
 -- Bytes grow by the text of a member, as the first or after a comma.
 abbrev pub PutsText : Line → List ℕ → Outcome → Added → List ℕ → List ℕ → Type 0

@@ -11,7 +11,7 @@ use Rattle.mmdb_filter.specs.declared.counts.Outcome.TheVariants.{Found, Failed}
 use Rattle.mmdb_cmd_enrich.specs.Added.{AddsAt}
 use Rattle.mmdb_layout.specs.Reading.{reads_in}
 use Rattle.mmdb_cmd_enrich.specs.Layers.{AddsAtAll, IsKey, first_read}
-use Rattle.mmdb_cmd_enrich.specs.Fields.{IsMemberAfter, HasUnreadField}
+use Rattle.mmdb_cmd_enrich.specs.Fields.{IsMemberAfter, IsUnread}
 use Rattle.mmdb_cmd_enrich.specs.declared.members.NamedField.{NamedField}
 
 pub data Wanted : Type 0 where
@@ -20,11 +20,11 @@ pub data Wanted : Type 0 where
   member : Database → List ℕ → List NamedField → Wanted
   layered_member : List Database → List ℕ → List NamedField → Wanted
 
--- the text of a member with others before the fields, or none where a field can't be read
+-- the text of a member with others before the fields, or none where a field, or all of a record, can't be read
 abbrev pub MemberAfter : List Token → (List PathElement → Option (Option Tree)) → List ℕ → List NamedField → List ℕ → Outcome → Type 0
 MemberAfter front reads name fields text outcome =
     (IsMemberAfter front reads name fields text × (outcome ≡ Found))
-    ⊎ (HasUnreadField reads fields × (text ≡ []) × (outcome ≡ Failed))
+    ⊎ (IsUnread reads fields × (text ≡ []) × (outcome ≡ Failed))
 
 -- the same with fields alone
 abbrev pub MemberOf : (List PathElement → Option (Option Tree)) → List ℕ → List NamedField → List ℕ → Outcome → Type 0

@@ -1,9 +1,11 @@
 //! The address that a row has, and the one that a database is asked for.
+ghost use Rattle.std.specs.Prelude.{◌≡◌, ◌≢◌, false};
+ghost use Rattle.std.specs.declared.net.ip_addr.IpAddr.TheVariants.{V6};
 ghost use Rattle.std.specs.Net.Addr.{IsCanonicalOf};
 ghost use Rattle.mmdb_cmd_enrich.specs.Asked.{Asks, ReadsRow};
 
 use crate::parts::part_of;
-use mmdb_addresses::{Reading, address_anywhere, address_of};
+use mmdb_addresses::{Reading, address_anywhere, address_of, last_address_anywhere};
 use mmdb_filter::Rows;
 use mmdb_reader::Reader;
 use std::convert::AsSlice;
@@ -21,19 +23,44 @@ fn canonical_of(address: Ipv6Addr) -> IpAddr
     address.to_canonical()
 }
 
+// Whether an address of IPv6 may be mapped to one of IPv4.
+#[inline(always)]
+fn may_be_mapped(address: Ipv6Addr) -> bool
+    ensures { result ≡ false → IsCanonicalOf address (V6 address) }
+{
+    address.segments()[0] == 0
+}
+
+// The address that a database with IPv6 is asked for in place of one that may be mapped to one of IPv4.
+#[cold]
+#[inline(never)]
+fn mapped_asked<S: AsSlice<u8> + Drop>(reader: &Reader<S>, address: Ipv6Addr) -> IpAddr
+    requires { reader.now.metadata.ip_version ≢ 4 }
+    ensures { Asks reader.now (V6 address) result }
+{
+    let Ok(found) = reader.lookup(IpAddr::V6(address)) else {
+        return IpAddr::V6(address);
+    };
+    match found.offset() {
+        Some(_) => IpAddr::V6(address),
+        None => canonical_of(address),
+    }
+}
+
 /// The address that a database is asked for in place of this one: of an address of IPv6 that is mapped to one of IPv4, a
-/// database without IPv6 is asked for that.
+/// database is asked for that where it has no IPv6, or no record of the address as it is written.
 #[inline(always)]
 pub(crate) fn asked_of<S: AsSlice<u8> + Drop>(reader: &Reader<S>, address: IpAddr) -> IpAddr
     ensures { Asks reader.now address result }
 {
     match address {
         IpAddr::V6(long) if reader.metadata().ip_version == IPV4 => canonical_of(long),
+        IpAddr::V6(long) if may_be_mapped(long) => mapped_asked(reader, long),
         other => other,
     }
 }
 
-/// The address in a row: in a column, or the first one anywhere.
+/// The address in a row: in a column, or the first or the last one anywhere.
 #[inline(always)]
 pub(crate) fn row_address(
     rows: Rows,
@@ -44,11 +71,12 @@ pub(crate) fn row_address(
 ) -> Option<IpAddr>
     ensures { ReadsRow rows reading column text.now is_long result }
 {
-    if let Reading::Anywhere = reading {
-        return address_anywhere(text, is_long);
+    match reading {
+        Reading::Anywhere => address_anywhere(text, is_long),
+        Reading::LastAnywhere => last_address_anywhere(text, is_long),
+        _ => address_of(
+            reading,
+            part_of(rows, reading, text, is_long, column, false),
+        ),
     }
-    address_of(
-        reading,
-        part_of(rows, reading, text, is_long, column, false),
-    )
 }

@@ -1,16 +1,18 @@
 //! The cells of a record.
-ghost use Rattle.std.specs.Prelude.{◌≡◌, ◌++◌, List, Option, Some, true, IfOk, OnOk, map};
+ghost use Rattle.std.specs.Prelude.{◌≡◌, ◌<◌, ◌++◌, List, Option, Some, true, false, IfOk, OnOk, map};
+ghost use Rattle.std.specs.Char.{digit_char};
 ghost use Rattle.std.specs.List.{slice_get};
+ghost use Rattle.mmdb_filter.specs.Cells.{csv_cell};
 ghost use Rattle.mmdb_filter.specs.declared.rows.Rows.TheVariants.{Lines, Csv};
 ghost use Rattle.mmdb_format.specs.Contents.{text as text_content};
 ghost use Rattle.mmdb_format.specs.Unfolding.{Tree, scalar};
 ghost use Rattle.mmdb_net.specs.Network.{short_text_of};
 ghost use Rattle.mmdb_reader.specs.declared.path.PathElement.{PathElement as SpecPathElement};
 ghost use Rattle.mmdb_value.specs.Values.{value_tree};
-ghost use Rattle.mmdb_cmd_enrich.specs.Cells.{is_plain as spec_is_plain, blanks};
+ghost use Rattle.mmdb_cmd_enrich.specs.Cells.{is_plain as spec_is_plain, blanks, escape_letter, escape_of, escaped};
 ghost use Rattle.mmdb_cmd_enrich.specs.KeptReads.{said};
 ghost use Rattle.mmdb_cmd_enrich.specs.Networks.{all_blanks};
-ghost use Rattle.mmdb_cmd_enrich.specs.Working.{PutsShown, PutsCompact, PutsCell, PutsNextCell, PutsCells, PutsFront};
+ghost use Rattle.mmdb_cmd_enrich.specs.Working.{PutsShown, PutsCompact, PutsCell, PutsNextCell, PutsCells, PutsFront, PutsJson};
 ghost use Rattle.mmdb_layout.specs.Reading.{IsReadAs};
 
 use crate::columns::delimiter_of;
@@ -47,20 +49,125 @@ fn put_compact(alloc: Global, value: &Value<'_>, out: &mut Vec<u8>) -> Result<()
     done
 }
 
-// Adds the cell of a text: in a line itself, without control characters and delimiters, or else as JSON; in CSV itself, in quotes
-// where it needs them.
+// The letter of a control character in an escape of JSON, or 0 where it has none.
+fn letter_of(byte: u8) -> u8
+    ensures { result ≡ escape_letter byte }
+{
+    if byte == b'\x08' {
+        b'b'
+    } else if byte == b'\t' {
+        b't'
+    } else if byte == b'\n' {
+        b'n'
+    } else if byte == b'\x0c' {
+        b'f'
+    } else if byte == b'\r' {
+        b'r'
+    } else {
+        0
+    }
+}
+
+// A hex digit.
+fn hex_digit(digit: u8) -> u8
+    requires { digit < 16 }
+    ensures { result ≡ digit_char digit }
+{
+    if digit < 10 {
+        b'0' + digit
+    } else {
+        b'a' - 10 + digit
+    }
+}
+
+// Adds a byte in an escape of JSON.
+fn put_escape(byte: u8, out: &mut Vec<u8>) -> Result<(), AllocError>
+    ensures { OnOk result (out.new.items ≡ out.old.items ++ escape_of byte) }
+{
+    let letter = letter_of(byte);
+    if letter > 0 {
+        return out.extend_from_slice(&[b'\\', letter]);
+    }
+    let (high, low) = (hex_digit(byte / 16), hex_digit(byte % 16));
+    out.extend_from_slice(&[b'\\', b'u', b'0', b'0', high, low])
+}
+
+// Adds bytes with control characters and delimiters in escapes of JSON.
+#[inline(never)]
+#[tactic(auto, unfolding(crate::specs::Cells::escaped))]
+fn put_escaped(delimiter: u8, bytes: &[u8], out: &mut Vec<u8>) -> Result<(), AllocError>
+    ensures { OnOk result (out.new.items ≡ out.old.items ++ escaped delimiter bytes.now) }
+{
+    for at in 0..bytes.len() {
+        let byte = bytes[at];
+        if byte > 31 && byte != delimiter {
+            out.push(byte)?;
+        } else {
+            put_escape(byte, out)?;
+        }
+    }
+    Ok(())
+}
+
+// Adds a cell of CSV, with control characters in escapes of JSON.
+#[inline(always)]
+fn put_csv(alloc: Global, delimiter: u8, bytes: &[u8], out: &mut Vec<u8>) -> Result<(), AllocError>
+    ensures { OnOk result
+        (out.new.items ≡ out.old.items ++ csv_cell delimiter (escaped 0 bytes.now)) }
+{
+    if is_plain(0, bytes) {
+        return put_csv_cell(delimiter, bytes, out);
+    }
+    let mut shown: Vec<u8> = Vec::new(alloc);
+    put_escaped(0, bytes, &mut shown)?;
+    put_csv_cell(delimiter, shown.as_slice(), out)
+}
+
+// Adds the cell of a text in a line that is not plain: as JSON where tabs separate cells, and else with escapes of JSON.
+#[inline(never)]
+fn put_rough(alloc: Global, delimiter: u8, text: &str, out: &mut Vec<u8>) -> Result<(), AllocError>
+    requires { spec_is_plain delimiter text.now ≡ false }
+    ensures { OnOk result (PutsShown (Lines delimiter) (scalar (text_content text.now))
+        out.old.items out.new.items) }
+{
+    if delimiter == b'\t' {
+        put_compact(alloc, &Value::String(text), out)
+    } else {
+        put_escaped(delimiter, text.as_bytes(), out)
+    }
+}
+
+// Adds the cell of a text: in a line itself, without control characters and delimiters, or else as JSON or with its escapes; in
+// CSV itself, in quotes where it needs them.
 #[inline(always)]
 fn put_text(alloc: Global, rows: Rows, text: &str, out: &mut Vec<u8>) -> Result<(), AllocError>
     ensures { OnOk result
         (PutsShown rows (scalar (text_content text.now)) out.old.items out.new.items) }
 {
     match rows {
-        Rows::Csv { delimiter } => put_csv_cell(delimiter, text.as_bytes(), out),
+        Rows::Csv { delimiter } => put_csv(alloc, delimiter, text.as_bytes(), out),
         Rows::Lines { delimiter } if is_plain(delimiter, text.as_bytes()) => {
             out.extend_from_slice(text.as_bytes())
         }
-        Rows::Lines { .. } => put_compact(alloc, &Value::String(text), out),
+        Rows::Lines { delimiter } => put_rough(alloc, delimiter, text, out),
     }
+}
+
+// Adds the cell of a value that is no text, in a line: its JSON, with escapes in the place of delimiters.
+fn put_json(
+    alloc: Global,
+    delimiter: u8,
+    value: &Value<'_>,
+    out: &mut Vec<u8>,
+) -> Result<(), AllocError>
+    ensures { OnOk result
+        (PutsJson delimiter (value_tree value.now) out.old.items out.new.items) }
+{
+    if delimiter == b'\t' {
+        return put_compact(alloc, value, out);
+    }
+    let text = compact(alloc, value)?;
+    put_escaped(delimiter, text.as_slice(), out)
 }
 
 // Adds the cell of a value: that of a text, or JSON.
@@ -77,15 +184,15 @@ fn put_value(
         return put_text(alloc, rows, text, out);
     }
     match rows {
-        Rows::Lines { .. } => put_compact(alloc, value, out),
+        Rows::Lines { delimiter } => put_json(alloc, delimiter, value, out),
         Rows::Csv { delimiter } => {
             let text = compact(alloc, value)?;
-            put_csv_cell(delimiter, text.as_slice(), out)
+            put_csv(alloc, delimiter, text.as_slice(), out)
         }
     }
 }
 
-// Adds the cell of a network whose text is not plain in a line: as JSON.
+// Adds the cell of a network whose text is not plain in a line.
 #[inline(never)]
 fn put_quoted_network(
     alloc: Global,
@@ -113,7 +220,7 @@ fn put_network(
     let mut text: Vec<u8> = Vec::new(alloc);
     network.push_text(&mut text)?;
     match rows {
-        Rows::Csv { delimiter } => put_csv_cell(delimiter, text.as_slice(), out),
+        Rows::Csv { delimiter } => put_csv(alloc, delimiter, text.as_slice(), out),
         Rows::Lines { delimiter } if is_plain(delimiter, text.as_slice()) => {
             out.extend_from_slice(text.as_slice())
         }

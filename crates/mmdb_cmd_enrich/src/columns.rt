@@ -1,9 +1,11 @@
 //! The address in a row.
-ghost use Rattle.std.specs.Prelude.{◌≡◌, ◌≢◌, ◌≤◌, get_or, length, option_map, false};
+ghost use Rattle.std.specs.Prelude.{◌≡◌, ◌≢◌, ◌≤◌, get_or, length, option_map, true, false};
 ghost use Rattle.mmdb_filter.specs.declared.rows.RowPosition.TheVariants.{Cell};
 ghost use Rattle.mmdb_filter.specs.declared.rows.Rows.TheVariants.{Csv};
-ghost use Rattle.mmdb_cmd_enrich.specs.Columns.{delimiter_of as spec_delimiter_of, cell_length as spec_cell_length, column_of as spec_column_of, value_of as spec_value_of};
+ghost use Rattle.mmdb_cmd_enrich.specs.Asked.{cell_read};
+ghost use Rattle.mmdb_cmd_enrich.specs.Columns.{delimiter_of as spec_delimiter_of, cell_length as spec_cell_length, column_of as spec_column_of, value_of as spec_value_of, HasBreaks};
 
+use mmdb_addresses::{Reading, whole_words};
 use mmdb_filter::{Rows, either_from, here_or_from};
 
 /// What separates cells.
@@ -54,6 +56,21 @@ fn cell_length(rows: Rows, text: &[u8]) -> usize
     }
 }
 
+/// How many delimiters there are between the cells of a row.
+pub(crate) fn breaks_in(rows: Rows, row: &[u8]) -> usize
+    ensures { HasBreaks rows row.now result }
+{
+    let mut rest = row;
+    for passed in 0..row.len() {
+        let len = cell_length(rows, rest);
+        if len >= rest.len() {
+            return passed;
+        }
+        rest = &rest[len..][1..];
+    }
+    row.len()
+}
+
 // The cell after `column` delimiters. A cell that the text's end cuts off is none.
 #[inline(never)]
 fn far_column_of(rows: Rows, text: &[u8], goes_on: bool, column: usize) -> Option<&[u8]>
@@ -99,6 +116,24 @@ fn value_of(rows: Rows, cell: &[u8]) -> &[u8]
         &cell[1..][..len - 2]
     } else {
         cell
+    }
+}
+
+/// What is read of the cell of a column of a row that is longer than what is seen of it.
+#[cold]
+#[inline(never)]
+pub(crate) fn cell_of_long(rows: Rows, reading: Reading, row: &[u8], column: usize) -> Option<&[u8]>
+    ensures { option_map (λ s. s.now) result ≡ cell_read rows reading column row.now true }
+{
+    if let Some(cell) = cell_of(rows, row, true, column) {
+        return Some(cell);
+    }
+    let Reading::First = reading else {
+        return None;
+    };
+    match column_of(rows, row, false, column) {
+        Some(cell) => Some(whole_words(cell)),
+        None => None,
     }
 }
 

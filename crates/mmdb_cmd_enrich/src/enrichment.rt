@@ -1,13 +1,14 @@
 //! What is added to a row.
 ghost use Rattle.std.specs.Prelude.{◌≡◌, ◌++◌, ◌⊎◌, ◌↔◌, Some, None, IfOk, IfErr, IfSome, option_map, if◌then◌else◌};
-ghost use Rattle.mmdb_filter.specs.declared.counts.Outcome.TheVariants.{Found, Failed};
+ghost use Rattle.mmdb_filter.specs.declared.counts.Outcome.TheVariants.{Found, Failed, Unreadable};
 ghost use Rattle.mmdb_format.specs.Error.{OfDatabase, OfInput, kind_of, FailsAs};
 ghost use Rattle.mmdb_reader.specs.Lookup.{CanAsk, Answers, IsInvalidAt, outcome_at};
 ghost use Rattle.mmdb_reader.specs.Many.{IsFoundFor};
-ghost use Rattle.mmdb_cmd_enrich.specs.Added.{AddsTo};
+ghost use Rattle.mmdb_filter.specs.Lines.{most_seen};
+ghost use Rattle.mmdb_cmd_enrich.specs.Added.{AddsTo, blanks_after};
 ghost use Rattle.mmdb_cmd_enrich.specs.Ahead.{IsAhead};
-ghost use Rattle.mmdb_cmd_enrich.specs.Asked.{Asks, AsksForRow, ReadsRow};
-ghost use Rattle.mmdb_addresses.specs.Rows.{FindsFirst};
+ghost use Rattle.mmdb_cmd_enrich.specs.Asked.{Asks, AsksForRow, ReadsRow, cell_read};
+ghost use Rattle.mmdb_addresses.specs.Addresses.{ReadsAddress};
 ghost use Rattle.mmdb_cmd_enrich.specs.Cells.{blanks};
 ghost use Rattle.mmdb_cmd_enrich.specs.Rows.{paths_of, AreKeptFor};
 
@@ -16,10 +17,11 @@ use crate::asked::asked_of;
 use crate::cache::{AddedCache, KeptRecord};
 use crate::cells::{put_blanks, put_cells};
 use crate::notes::{Notes, note_rejected};
+use crate::padding::put_missing;
 use crate::parts::part_of;
 use crate::row_memory::RowMemory;
-use mmdb_addresses::{Reading, address_anywhere};
-use mmdb_filter::{Added, Additions, Outcome, Rows};
+use mmdb_addresses::{Reading, address_anywhere, last_address_anywhere};
+use mmdb_filter::{Added, Additions, MOST_SEEN, Outcome, Rows};
 use mmdb_reader::{LookupResult, MaxMindDbError, PathElement, Reader};
 use std::alloc::{AllocError, Global};
 use std::convert::AsSlice;
@@ -37,6 +39,8 @@ pub struct Enrichment<'a, 'f, S: AsSlice<u8> + Drop> {
     pub reading: Reading,
     /// The column of the address, from 0.
     pub column: usize,
+    /// How many delimiters the first row has, where it names the columns.
+    pub breaks: Option<usize>,
     /// The paths of the fields.
     pub paths: Vec<Vec<PathElement<'f>>>,
 }
@@ -52,12 +56,13 @@ pub(crate) fn outcome_of(are_read: bool) -> Outcome
     }
 }
 
-// The first address anywhere in a row.
-fn address_in_row(text: &[u8], is_long: bool) -> Option<Asked>
-    ensures spelled { FindsFirst text.now is_long (option_map (λ asked. asked.address) result) }
+// An address of which it is not known where its walk ends.
+#[inline(always)]
+fn without_leaf(address: Option<IpAddr>) -> Option<Asked>
+    ensures spelled { option_map (λ asked. asked.address) result ≡ address }
     ensures found { IfSome result (λ asked. asked.leaf ≡ None) }
 {
-    match address_anywhere(text, is_long) {
+    match address {
         Some(address) => Some(Asked {
             address,
             leaf: None,
@@ -94,7 +99,7 @@ pub(crate) fn put_kept(kept: KeptRecord<'_>, out: &mut Vec<u8>) -> Result<Outcom
 
 impl<'a, 'f, S: AsSlice<u8> + Drop> Enrichment<'a, 'f, S> {
     ghost use Rattle.mmdb_reader.specs.Found.{database_asked, leaf_of, offset_found};
-    ghost use Rattle.mmdb_cmd_enrich.specs.Working.{AddsAtTo, AddsForTo};
+    ghost use Rattle.mmdb_cmd_enrich.specs.Working.{AddsAtTo, AddsForTo, AddsRowTo};
 
     // Notes a record that was read, or was not.
     #[inline(never)]
@@ -141,6 +146,17 @@ impl<'a, 'f, S: AsSlice<u8> + Drop> Enrichment<'a, 'f, S> {
         Ok(outcome)
     }
 
+    // Adds empty cells to a row without an address, unless it is empty.
+    fn put_unread(&self, text: &[u8], out: &mut Vec<u8>) -> Result<Outcome, AllocError>
+        ensures { IfOk result (λ outcome. (outcome ≡ Unreadable) × (out.new.items ≡ out.old.items
+            ++ blanks_after text.now (blanks self.now.rows (paths_of self.now.paths)))) }
+    {
+        if text.is_empty() {
+            return Ok(Outcome::Unreadable);
+        }
+        self.put_none(Outcome::Unreadable, out)
+    }
+
     // What is answered for an address.
     #[inline(always)]
     fn answer(&self, asked: Asked) -> Result<LookupResult<'a, S>, MaxMindDbError>
@@ -170,7 +186,7 @@ impl<'a, 'f, S: AsSlice<u8> + Drop> Enrichment<'a, 'f, S> {
         requires kept { AreKeptFor self.now.reader.now self.now.rows self.now.paths cache.old }
         requires found { IfSome asked.leaf (IsFoundFor self.now.reader.now asked.address) }
         ensures added { IfOk result (λ outcome. AddsForTo self.now.reader.now self.now.rows
-            self.now.paths (Some asked.address) outcome out.old out.new) }
+            self.now.paths asked.address outcome out.old out.new) }
         ensures kept { AreKeptFor self.now.reader.now self.now.rows self.now.paths cache.new }
     {
         let Ok(found) = self.answer(asked) else {
@@ -186,6 +202,24 @@ impl<'a, 'f, S: AsSlice<u8> + Drop> Enrichment<'a, 'f, S> {
         }
     }
 
+    // The address in the cell of the column.
+    #[inline(always)]
+    fn address_in_cell(&self, text: &[u8], is_long: bool, ahead: &mut Ahead) -> Option<Asked>
+        requires { IsAhead self.now.reader.now self.now.reading ahead.old }
+        ensures spelled { ReadsAddress self.now.reading
+            (cell_read self.now.rows self.now.reading self.now.column text.now is_long)
+            (option_map (λ asked. asked.address) result) }
+        ensures found { IfSome result (λ asked.
+            IfSome asked.leaf (IsFoundFor self.now.reader.now asked.address)) }
+        ensures kept { IsAhead self.now.reader.now self.now.reading ahead.new }
+    {
+        let is_kept = ahead.has_next();
+        match part_of(self.rows, self.reading, text, is_long, self.column, is_kept) {
+            Some(cell) => ahead.read(self.reading, cell),
+            None => None,
+        }
+    }
+
     // The address in a row.
     #[inline(always)]
     fn address_in(&self, text: &[u8], is_long: bool, ahead: &mut Ahead) -> Option<Asked>
@@ -196,13 +230,10 @@ impl<'a, 'f, S: AsSlice<u8> + Drop> Enrichment<'a, 'f, S> {
             IfSome asked.leaf (IsFoundFor self.now.reader.now asked.address)) }
         ensures kept { IsAhead self.now.reader.now self.now.reading ahead.new }
     {
-        if let Reading::Anywhere = self.reading {
-            return address_in_row(text, is_long);
-        }
-        let is_kept = ahead.has_next();
-        match part_of(self.rows, self.reading, text, is_long, self.column, is_kept) {
-            Some(cell) => ahead.read(self.reading, cell),
-            None => None,
+        match self.reading {
+            Reading::Anywhere => without_leaf(address_anywhere(text, is_long)),
+            Reading::LastAnywhere => without_leaf(last_address_anywhere(text, is_long)),
+            _ => self.address_in_cell(text, is_long, ahead),
         }
     }
 
@@ -221,6 +252,31 @@ impl<'a, 'f, S: AsSlice<u8> + Drop> Enrichment<'a, 'f, S> {
             None => None,
         }
     }
+
+    // Adds the cells of a row, with those of its address.
+    #[inline(always)]
+    fn put_row(
+        &self,
+        text: &[u8],
+        is_long: bool,
+        ahead: &mut Ahead,
+        cache: &mut AddedCache,
+        notes: &mut Notes,
+        out: &mut Vec<u8>,
+    ) -> Result<Outcome, AllocError>
+        requires ahead { IsAhead self.now.reader.now self.now.reading ahead.old }
+        requires kept { AreKeptFor self.now.reader.now self.now.rows self.now.paths cache.old }
+        ensures added { IfOk result (λ outcome. AddsRowTo self.now.reader.now self.now.rows
+            self.now.reading self.now.column self.now.paths text.now is_long outcome
+            out.old out.new) }
+        ensures ahead { IsAhead self.now.reader.now self.now.reading ahead.new }
+        ensures kept { AreKeptFor self.now.reader.now self.now.rows self.now.paths cache.new }
+    {
+        match self.asked_for(text, is_long, ahead) {
+            Some(asked) => self.put_address(asked, cache, notes, out),
+            None => self.put_unread(text, out),
+        }
+    }
 }
 
 impl<'a, 'f, S: AsSlice<u8> + Drop> Additions for Enrichment<'a, 'f, S> {
@@ -229,12 +285,20 @@ impl<'a, 'f, S: AsSlice<u8> + Drop> Additions for Enrichment<'a, 'f, S> {
 
     type Memory = RowMemory;
 
-    ghost adds = { λ e text goes_on extra behind outcome. (behind ≡ 0)
-        × AddsTo e.reader.now e.rows e.reading e.column (paths_of e.paths) text goes_on
-        extra outcome };
+    ghost adds = { λ e. record {
+      most = most_seen;
+      adds = λ text goes_on extra behind outcome.
+          (behind ≡ 0) × AddsTo e.reader.now e.rows e.reading e.column e.breaks (paths_of e.paths)
+          text goes_on extra outcome;
+    } };
 
     ghost fits = { λ e memory.
         Remembers e.reader.now e.reading (cells e.reader.now e.rows (paths_of e.paths)) memory };
+
+    #[inline(always)]
+    fn most_seen(&self) -> usize {
+        MOST_SEEN
+    }
 
     fn add(
         &self,
@@ -244,10 +308,22 @@ impl<'a, 'f, S: AsSlice<u8> + Drop> Additions for Enrichment<'a, 'f, S> {
         out: &mut Vec<u8>,
     ) -> Result<Added, AllocError> {
         memory.notes.pass_row();
-        let outcome = match self.asked_for(text, is_long, &mut memory.ahead) {
-            Some(asked) => self.put_address(asked, &mut memory.cache, &mut memory.notes, out)?,
-            None => self.put_none(Outcome::Unreadable, out)?,
-        };
+        put_missing(
+            self.rows,
+            self.breaks,
+            text,
+            is_long,
+            &mut memory.notes,
+            out,
+        )?;
+        let outcome = self.put_row(
+            text,
+            is_long,
+            &mut memory.ahead,
+            &mut memory.cache,
+            &mut memory.notes,
+            out,
+        )?;
         Ok(Added { outcome, behind: 0 })
     }
 

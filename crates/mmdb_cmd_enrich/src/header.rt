@@ -1,5 +1,5 @@
 //! The first row, which may name the columns.
-use crate::columns::delimiter_of;
+use crate::columns::{breaks_in, delimiter_of};
 use crate::task::{Column, RowsTask};
 use csv::{ByteRecord, ReaderBuilder};
 use mmdb_console::{ProgramError, put};
@@ -178,42 +178,59 @@ fn place_of(
     }
 }
 
-// Writes the first row, where there is one, with the names of the fields, and answers the place of the column.
+/// The columns of rows.
+#[derive(Clone, Copy)]
+pub(crate) struct Columns {
+    /// The place of the one of the address, from 0.
+    pub(crate) address: usize,
+    /// How many delimiters the first row has, where it names the columns.
+    pub(crate) breaks: Option<usize>,
+}
+
+// Writes the first row with the names of the fields, and answers the columns.
 fn write_header<O: Write>(
     alloc: Global,
     task: &RowsTask<'_>,
     header: &mut Vec<u8>,
     out: &mut O,
-) -> Result<usize, ProgramError> {
-    let column = place_of(alloc, task.rows, task.column, header.as_slice())?;
-    if !header.is_empty() {
-        put_names(task.rows, task.names.as_slice(), header)?;
-        put(header.as_slice(), out)?;
-    }
-    Ok(column)
+) -> Result<Columns, ProgramError> {
+    let address = place_of(alloc, task.rows, task.column, header.as_slice())?;
+    let (cells, _) = split_end(header.as_slice());
+    let breaks = Some(breaks_in(task.rows, cells));
+    put_names(task.rows, task.names.as_slice(), header)?;
+    put(header.as_slice(), out)?;
+    Ok(Columns { address, breaks })
 }
 
-// Copies the first row, where there is one, with the names of the fields, and answers the place of the column.
+// Copies the first row, where there is one, with the names of the fields, and answers the columns.
 fn copy_header<I: BufRead, O: Write>(
     alloc: Global,
     task: &RowsTask<'_>,
     input: &mut I,
     out: &mut O,
-) -> Result<usize, ProgramError> {
+) -> Result<Columns, ProgramError> {
     let mut header = read_header(alloc, task.rows, input)?;
+    if header.is_empty() {
+        return Ok(Columns {
+            address: 0,
+            breaks: None,
+        });
+    }
     write_header(alloc, task, &mut header, out)
 }
 
-/// The place of the column. The first row is copied where it names the columns.
-pub(crate) fn column_of<I: BufRead, O: Write>(
+/// The columns. The first row is copied where it names them; of an input without a row nothing is known.
+pub(crate) fn columns_of_input<I: BufRead, O: Write>(
     alloc: Global,
     task: &RowsTask<'_>,
     input: &mut I,
     out: &mut O,
-) -> Result<usize, ProgramError> {
+) -> Result<Columns, ProgramError> {
     if task.header {
-        copy_header(alloc, task, input, out)
-    } else {
-        place_of(alloc, task.rows, task.column, &[])
+        return copy_header(alloc, task, input, out);
     }
+    Ok(Columns {
+        address: place_of(alloc, task.rows, task.column, &[])?,
+        breaks: None,
+    })
 }

@@ -74,6 +74,8 @@ impl<'i, I: Live> Counted<'i, I> {
 }
 
 impl<'i, I: Live> Read for Counted<'i, I> {
+    ghost remaining = { λ counted. I.remaining counted.input.now };
+
     fn read(&mut self, buf: &mut [u8]) -> io::Result<usize> {
         let amount = self.input.read(buf)?;
         self.count(amount);
@@ -82,6 +84,8 @@ impl<'i, I: Live> Read for Counted<'i, I> {
 }
 
 impl<'i, I: Live> BufRead for Counted<'i, I> {
+    ghost consumable_len = { λ counted. I.consumable_len counted.input.now };
+
     #[inline(always)]
     fn fill_buf(&mut self) -> io::Result<&[u8]> {
         self.input.fill_buf()

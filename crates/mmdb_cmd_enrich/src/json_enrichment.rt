@@ -1,7 +1,8 @@
 //! What is added to a line of JSON.
 ghost use Rattle.std.specs.Prelude.{◌≡◌, ◌≤◌, [], Some, IfOk, MatchOption};
 ghost use Rattle.mmdb_filter.specs.declared.counts.Outcome.TheVariants.{Found, Failed};
-ghost use Rattle.mmdb_cmd_enrich.specs.Members.{PutsMember, PutsText};
+ghost use Rattle.mmdb_cmd_enrich.specs.Members.{IsTooLong, PutsMember, PutsText, object_most};
+ghost use Rattle.mmdb_objects.specs.Objects.{ReadsLine};
 
 use crate::asked::asked_of;
 use crate::cache::{AddedCache, KeptRecord};
@@ -9,14 +10,14 @@ use crate::members::{NamedField, member_of, null_member};
 use crate::notes::{Notes, note_rejected};
 use json::Scratch;
 use mmdb_addresses::Reading;
-use mmdb_filter::{Added, Additions, Outcome};
+use mmdb_filter::{Added, Additions, MOST_ASKED, MOST_SEEN, Outcome};
 use mmdb_objects::{Line, PathStep, ReadLine, read_line};
 use mmdb_reader::{LookupResult, Reader};
 use std::alloc::{AllocError, Global};
 use std::convert::AsSlice;
 use std::net::IpAddr;
 
-/// Fields of the record of the address in an object, as its last member.
+/// Fields of the record of the address in an object, or all of it, as its last member.
 #[derive(Drop)]
 pub struct JsonEnrichment<'a, 'f, S: AsSlice<u8> + Drop> {
     pub alloc: Global,
@@ -30,7 +31,9 @@ pub struct JsonEnrichment<'a, 'f, S: AsSlice<u8> + Drop> {
     pub name: &'f str,
     /// Whether an object without a record gets the member too, with every field null.
     pub nulls: bool,
-    /// What the member has.
+    /// Whether objects of more bytes than rows mostly have are read.
+    pub reads_long: bool,
+    /// What the member has: without a field it is the record.
     pub fields: Vec<NamedField<'f>>,
 }
 
@@ -63,6 +66,40 @@ impl JsonMemory {
             scratch: Scratch::new(alloc),
             notes,
         })
+    }
+}
+
+/// How many bytes of an object are seen at most.
+#[inline(always)]
+pub(crate) fn most_of_object(reads_long: bool) -> usize
+    ensures most { result ≡ object_most reads_long }
+    ensures few { result ≤ 1048576 }
+{
+    if reads_long { MOST_ASKED } else { MOST_SEEN }
+}
+
+/// What a line is. One that goes on is too long, and so is one of more bytes than rows mostly have for which there is no
+/// memory.
+#[inline(always)]
+pub(crate) fn line_read(
+    alloc: Global,
+    reading: Reading,
+    text: &[u8],
+    is_long: bool,
+    path: &[PathStep<'_>],
+    name: &str,
+    scratch: &mut Scratch,
+) -> Result<Option<ReadLine>, AllocError>
+    ensures { IfOk result (λ line. MatchOption line (IsTooLong text.now is_long)
+        (ReadsLine reading text.now is_long path.now name.now)) }
+{
+    if is_long {
+        return Ok(None);
+    }
+    match read_line(alloc, reading, text, is_long, path, name, scratch) {
+        Ok(line) => Ok(Some(line)),
+        Err(_) if text.len() > MOST_SEEN => Ok(None),
+        Err(error) => Err(error),
     }
 }
 
@@ -138,6 +175,9 @@ impl<'a, 'f, S: AsSlice<u8> + Drop> JsonEnrichment<'a, 'f, S> {
     #[inline(never)]
     fn note(&self, found: &LookupResult<'_, S>, offset: usize, are_read: bool, notes: &mut Notes) {
         notes.note_record(0, offset);
+        if self.fields.is_empty() {
+            notes.note_field(self.alloc, found, 0, &[], are_read);
+        }
         for at in 0..self.fields.len() {
             let path = self.fields[at].path.as_slice();
             notes.note_field(self.alloc, found, at, path, are_read);
@@ -254,17 +294,25 @@ impl<'a, 'f, S: AsSlice<u8> + Drop> JsonEnrichment<'a, 'f, S> {
 }
 
 impl<'a, 'f, S: AsSlice<u8> + Drop> Additions for JsonEnrichment<'a, 'f, S> {
-    ghost use Rattle.mmdb_cmd_enrich.specs.Members.{AddsMember};
+    ghost use Rattle.mmdb_cmd_enrich.specs.Members.{AddsMember, object_most};
     ghost use Rattle.mmdb_cmd_enrich.specs.Kept.{AreKept};
     ghost use Rattle.mmdb_cmd_enrich.specs.Wanted.{member};
 
     type Memory = JsonMemory;
 
-    ghost adds = { λ e text goes_on extra behind outcome. AddsMember e.reader.now e.reading
-        e.path.items e.nulls e.name.now e.fields.items text goes_on extra behind outcome };
+    ghost adds = { λ e. record {
+      most = object_most e.reads_long;
+      adds = λ text goes_on extra behind outcome. AddsMember e.reader.now e.reading
+          e.path.items e.nulls e.name.now e.fields.items text goes_on extra behind outcome;
+    } };
 
     ghost fits = { λ e memory.
         AreKept (member e.reader.now e.name.now e.fields.items) memory.cache };
+
+    #[inline(always)]
+    fn most_seen(&self) -> usize {
+        most_of_object(self.reads_long)
+    }
 
     fn add(
         &self,
@@ -276,7 +324,7 @@ impl<'a, 'f, S: AsSlice<u8> + Drop> Additions for JsonEnrichment<'a, 'f, S> {
         memory.notes.pass_row();
         let path = self.path.as_slice();
         let scratch = &mut memory.scratch;
-        match read_line(
+        match line_read(
             self.alloc,
             self.reading,
             text,
@@ -285,10 +333,11 @@ impl<'a, 'f, S: AsSlice<u8> + Drop> Additions for JsonEnrichment<'a, 'f, S> {
             self.name,
             scratch,
         )? {
-            ReadLine::Object(line) => {
+            Some(ReadLine::Object(line)) => {
                 Ok(self.put_object(&line, &mut memory.cache, &mut memory.notes, out)?)
             }
-            ReadLine::NoObject => Ok(nothing(Outcome::Malformed)),
+            Some(ReadLine::NoObject) => Ok(nothing(Outcome::Malformed)),
+            None => Ok(nothing(Outcome::TooLong)),
         }
     }
 

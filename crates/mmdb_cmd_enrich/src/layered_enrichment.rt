@@ -8,8 +8,10 @@ ghost use Rattle.mmdb_cmd_enrich.specs.Layers.{AddsToAll, IsKey, outcome_of as s
 ghost use Rattle.mmdb_cmd_enrich.specs.Networks.{all_blanks};
 ghost use Rattle.mmdb_cmd_enrich.specs.Rows.{paths_of, AreKeptForAll};
 ghost use Rattle.mmdb_cmd_enrich.specs.Wanted.{Wanted};
-ghost use Rattle.mmdb_cmd_enrich.specs.Working.{AddsAtAllTo, AddsForAllTo, AreAnswersOf, PutsFrontOf, offset_in};
-ghost use Rattle.mmdb_filter.specs.declared.counts.Outcome.TheVariants.{Failed};
+ghost use Rattle.mmdb_cmd_enrich.specs.Working.{AddsAtAllTo, AddsForAllTo, AddsRowAllTo, AreAnswersOf, PutsFrontOf, offset_in};
+ghost use Rattle.mmdb_cmd_enrich.specs.Added.{blanks_after};
+ghost use Rattle.mmdb_filter.specs.Lines.{most_seen};
+ghost use Rattle.mmdb_filter.specs.declared.counts.Outcome.TheVariants.{Failed, Unreadable};
 
 use crate::asked::row_address;
 use crate::cache::AddedCache;
@@ -18,8 +20,9 @@ use crate::enrichment::{outcome_of, put_kept};
 use crate::kept_reads::KeptReads;
 use crate::layers::{Layers, can_ask_any};
 use crate::notes::{Notes, note_rejected_by};
+use crate::padding::put_missing;
 use mmdb_addresses::Reading;
-use mmdb_filter::{Added, Additions, Outcome, Rows};
+use mmdb_filter::{Added, Additions, MOST_SEEN, Outcome, Rows};
 use mmdb_reader::{PathElement, Reader};
 use std::alloc::{AllocError, Global};
 use std::convert::AsSlice;
@@ -40,6 +43,8 @@ pub struct LayeredEnrichment<'a, 'f, S: AsSlice<u8> + Drop> {
     pub reading: Reading,
     /// The column of the address, from 0.
     pub column: usize,
+    /// How many delimiters the first row has, where it names the columns.
+    pub breaks: Option<usize>,
     /// Whether the network of the address comes before the fields: the smallest in which a database has it.
     pub network: bool,
     /// The paths of the fields.
@@ -150,6 +155,18 @@ impl<'a, 'f, S: AsSlice<u8> + Drop> LayeredEnrichment<'a, 'f, S> {
         Ok(outcome)
     }
 
+    // Adds empty cells to a row without an address, unless it is empty.
+    fn put_unread(&self, text: &[u8], out: &mut Vec<u8>) -> Result<Outcome, AllocError>
+        ensures { IfOk result (λ outcome. (outcome ≡ Unreadable) × (out.new.items ≡ out.old.items
+            ++ blanks_after text.now
+            (all_blanks self.now.network self.now.rows (paths_of self.now.paths)))) }
+    {
+        if text.is_empty() {
+            return Ok(Outcome::Unreadable);
+        }
+        self.put_none(Outcome::Unreadable, out)
+    }
+
     // Adds empty cells for an address that is rejected.
     #[inline(never)]
     fn put_rejected(
@@ -223,7 +240,7 @@ impl<'a, 'f, S: AsSlice<u8> + Drop> LayeredEnrichment<'a, 'f, S> {
         requires reads { AreReadsKept self.now.readers.now (paths_of self.now.paths)
             memory.old.reads }
         ensures added { IfOk result (λ outcome. AddsForAllTo self.now.readers.now self.now.network
-            self.now.rows self.now.paths (Some address) outcome out.old out.new) }
+            self.now.rows self.now.paths address outcome out.old out.new) }
         ensures kept { AreKeptForAll self.now.readers.now self.now.rows self.now.paths
             memory.new.cache }
         ensures reads { AreReadsKept self.now.readers.now (paths_of self.now.paths)
@@ -244,6 +261,33 @@ impl<'a, 'f, S: AsSlice<u8> + Drop> LayeredEnrichment<'a, 'f, S> {
             out,
         )
     }
+
+    // Adds the cells of a row, with those of its address.
+    #[inline(always)]
+    fn put_row(
+        &self,
+        text: &[u8],
+        is_long: bool,
+        memory: &mut LayeredMemory<'a, S>,
+        out: &mut Vec<u8>,
+    ) -> Result<Outcome, AllocError>
+        requires kept { AreKeptForAll self.now.readers.now self.now.rows self.now.paths
+            memory.old.cache }
+        requires reads { AreReadsKept self.now.readers.now (paths_of self.now.paths)
+            memory.old.reads }
+        ensures added { IfOk result (λ outcome. AddsRowAllTo self.now.readers.now self.now.network
+            self.now.rows self.now.reading self.now.column self.now.paths text.now is_long outcome
+            out.old out.new) }
+        ensures kept { AreKeptForAll self.now.readers.now self.now.rows self.now.paths
+            memory.new.cache }
+        ensures reads { AreReadsKept self.now.readers.now (paths_of self.now.paths)
+            memory.new.reads }
+    {
+        match row_address(self.rows, self.reading, self.column, text, is_long) {
+            Some(address) => self.put_address(address, memory, out),
+            None => self.put_unread(text, out),
+        }
+    }
 }
 
 impl<'a, 'f, S: AsSlice<u8> + Drop> Additions for LayeredEnrichment<'a, 'f, S> {
@@ -253,12 +297,20 @@ impl<'a, 'f, S: AsSlice<u8> + Drop> Additions for LayeredEnrichment<'a, 'f, S> {
 
     type Memory = LayeredMemory<'a, S>;
 
-    ghost adds = { λ e text goes_on extra behind outcome. (behind ≡ 0)
-        × AddsToAll e.readers.now e.network e.rows e.reading e.column (paths_of e.paths) text
-        goes_on extra outcome };
+    ghost adds = { λ e. record {
+      most = most_seen;
+      adds = λ text goes_on extra behind outcome.
+          (behind ≡ 0) × AddsToAll e.readers.now e.network e.rows e.reading e.column e.breaks
+          (paths_of e.paths) text goes_on extra outcome;
+    } };
 
     ghost fits = { λ e memory. AreKeptForAll e.readers.now e.rows e.paths memory.cache
         × AreReadsKept e.readers.now (paths_of e.paths) memory.reads };
+
+    #[inline(always)]
+    fn most_seen(&self) -> usize {
+        MOST_SEEN
+    }
 
     fn add(
         &self,
@@ -268,11 +320,15 @@ impl<'a, 'f, S: AsSlice<u8> + Drop> Additions for LayeredEnrichment<'a, 'f, S> {
         out: &mut Vec<u8>,
     ) -> Result<Added, AllocError> {
         memory.notes.pass_row();
-        let address = row_address(self.rows, self.reading, self.column, text, is_long);
-        let outcome = match address {
-            Some(address) => self.put_address(address, memory, out)?,
-            None => self.put_none(Outcome::Unreadable, out)?,
-        };
+        put_missing(
+            self.rows,
+            self.breaks,
+            text,
+            is_long,
+            &mut memory.notes,
+            out,
+        )?;
+        let outcome = self.put_row(text, is_long, memory, out)?;
         Ok(Added { outcome, behind: 0 })
     }
 

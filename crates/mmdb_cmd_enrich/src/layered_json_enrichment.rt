@@ -5,29 +5,32 @@ ghost use Rattle.mmdb_reader.specs.File.{Database};
 ghost use Rattle.mmdb_reader.specs.declared.path.PathElement.{PathElement as SpecPathElement};
 ghost use Rattle.mmdb_cmd_enrich.specs.Kept.{AreKept};
 ghost use Rattle.mmdb_cmd_enrich.specs.KeptReads.{AreReadsKept, paths_in};
-ghost use Rattle.mmdb_cmd_enrich.specs.LayeredMembers.{null_front};
+ghost use Rattle.mmdb_cmd_enrich.specs.LayeredMembers.{null_front, nulls_of};
+ghost use Rattle.mmdb_cmd_enrich.specs.declared.members.MemberKind.TheVariants.{NetworkAndFields, Records};
 ghost use Rattle.mmdb_cmd_enrich.specs.Layers.{IsKey, first_read};
 ghost use Rattle.mmdb_cmd_enrich.specs.Wanted.{Wanted, layered_member};
 ghost use Rattle.mmdb_cmd_enrich.specs.Working.{AreAnswersOf, PutsFound, PutsMemberForAll, PutsMemberOf, PutsNoneAfter, PutsRead, PutsToObjectAll, offset_in};
 ghost use Rattle.mmdb_filter.specs.declared.counts.Outcome.TheVariants.{Failed};
 
 use crate::cache::AddedCache;
-use crate::json_enrichment::{kept_of, nothing, put_member, put_text};
+use crate::json_enrichment::{kept_of, line_read, most_of_object, nothing, put_member, put_text};
 use crate::kept_reads::KeptReads;
 use crate::layers::{Layers, can_ask_any};
-use crate::members::{NamedField, member_of, network_member_of, null_member, null_network_member};
+use crate::members::{
+    MemberKind, NamedField, member_of, network_member_of, null_member, null_network_member,
+};
 use crate::notes::{Notes, note_rejected_by};
 use json::Scratch;
 use mmdb_addresses::Reading;
 use mmdb_filter::{Added, Additions, Outcome};
-use mmdb_objects::{Line, PathStep, ReadLine, read_line};
+use mmdb_objects::{Line, PathStep, ReadLine};
 use mmdb_reader::Reader;
 use std::alloc::{AllocError, Global};
 use std::convert::AsSlice;
 use std::net::IpAddr;
 
 /// Fields of the records of the address in an object, as its last member: each field of the first database that has it, and
-/// before them, where it is wanted, the network of the address.
+/// before them, where it is wanted, the network of the address; or these records.
 #[derive(Drop)]
 pub struct LayeredJsonEnrichment<'a, 'f, S: AsSlice<u8> + Drop> {
     pub alloc: Global,
@@ -43,9 +46,11 @@ pub struct LayeredJsonEnrichment<'a, 'f, S: AsSlice<u8> + Drop> {
     pub name: &'f str,
     /// Whether an object without a record gets the member too, with every field null.
     pub nulls: bool,
-    /// Whether the member has the network of the address before the fields: the smallest in which a database has it.
-    pub network: bool,
-    /// What the member has.
+    /// What the member has: with the network it is the smallest in which a database has the address.
+    pub kind: MemberKind,
+    /// Whether objects of more bytes than rows mostly have are read.
+    pub reads_long: bool,
+    /// The fields.
     pub fields: Vec<NamedField<'f>>,
 }
 
@@ -85,6 +90,9 @@ impl<'a, 'f, S: AsSlice<u8> + Drop> LayeredJsonEnrichment<'a, 'f, S> {
     #[inline(never)]
     fn note(&self, layers: &Layers<'a, S>, are_read: bool, notes: &mut Notes) {
         notes.note_records(layers);
+        if self.kind == MemberKind::Records {
+            return notes.note_unread(self.alloc, self.names, layers, are_read);
+        }
         if are_read && notes.has_met_all(self.fields.len()) {
             return;
         }
@@ -135,14 +143,14 @@ impl<'a, 'f, S: AsSlice<u8> + Drop> LayeredJsonEnrichment<'a, 'f, S> {
 
     // The member of which everything is null.
     fn null_member(&self) -> Result<Vec<u8>, AllocError>
-        ensures { IfOk result (λ text. IsNullMemberAfter (null_front self.now.network)
-            self.now.name.now self.now.fields.items text.items) }
+        ensures { IfOk result (λ text. IsNullMemberAfter (null_front self.now.kind)
+            self.now.name.now (nulls_of self.now.kind self.now.fields.items) text.items) }
     {
         let fields = self.fields.as_slice();
-        if self.network {
-            null_network_member(self.alloc, self.name, fields)
-        } else {
-            null_member(self.alloc, self.name, fields)
+        match self.kind {
+            MemberKind::Fields => null_member(self.alloc, self.name, fields),
+            MemberKind::NetworkAndFields => null_network_member(self.alloc, self.name, fields),
+            MemberKind::Records => null_member(self.alloc, self.name, &[]),
         }
     }
 
@@ -154,9 +162,9 @@ impl<'a, 'f, S: AsSlice<u8> + Drop> LayeredJsonEnrichment<'a, 'f, S> {
         outcome: Outcome,
         out: &mut Vec<u8>,
     ) -> Result<Added, AllocError>
-        ensures added { IfOk result (λ addition. PutsNoneAfter (null_front self.now.network)
-            self.now.nulls self.now.name.now self.now.fields.items line.now outcome addition
-            out.old.items out.new.items) }
+        ensures added { IfOk result (λ addition. PutsNoneAfter (null_front self.now.kind)
+            self.now.nulls self.now.name.now (nulls_of self.now.kind self.now.fields.items)
+            line.now outcome addition out.old.items out.new.items) }
         ensures behind { IfOk result (λ addition. addition.behind ≤ line.now.behind) }
     {
         if !self.nulls {
@@ -228,7 +236,7 @@ impl<'a, 'f, S: AsSlice<u8> + Drop> LayeredJsonEnrichment<'a, 'f, S> {
         requires asked { AreAnswersOf self.now.readers.now layers.now.answers.items }
         requires reads { AreReadsKept self.now.readers.now (paths_in self.now.fields.items)
             reads.old }
-        ensures added { IfOk result (λ addition. PutsRead self.now.readers.now true
+        ensures added { IfOk result (λ addition. PutsRead self.now.readers.now NetworkAndFields
             self.now.name.now self.now.fields.items line.now layers.now.answers.items addition
             out.old.items out.new.items) }
         ensures reads { AreReadsKept self.now.readers.now (paths_in self.now.fields.items)
@@ -237,6 +245,27 @@ impl<'a, 'f, S: AsSlice<u8> + Drop> LayeredJsonEnrichment<'a, 'f, S> {
         let network = layers.shown_network();
         let fields = self.fields.as_slice();
         let member = network_member_of(self.alloc, network, layers, reads, self.name, fields)?;
+        let made = kept_of(&member);
+        self.note(layers, made.outcome == Outcome::Found, notes);
+        put_member(line, made, out)
+    }
+
+    // Adds the member of the records themselves. It is not kept: most are long.
+    #[inline(never)]
+    fn put_each(
+        &self,
+        line: &Line,
+        layers: &Layers<'a, S>,
+        notes: &mut Notes,
+        out: &mut Vec<u8>,
+    ) -> Result<Added, AllocError>
+        requires asked { AreAnswersOf self.now.readers.now layers.now.answers.items }
+        ensures { IfOk result (λ addition. PutsRead self.now.readers.now Records
+            self.now.name.now self.now.fields.items line.now layers.now.answers.items addition
+            out.old.items out.new.items) }
+    {
+        let fields = self.fields.as_slice();
+        let member = member_of(self.alloc, &layers.answers, &mut (), self.name, fields)?;
         let made = kept_of(&member);
         self.note(layers, made.outcome == Outcome::Found, notes);
         put_member(line, made, out)
@@ -261,7 +290,7 @@ impl<'a, 'f, S: AsSlice<u8> + Drop> LayeredJsonEnrichment<'a, 'f, S> {
             self.now.fields.items) cache.old }
         requires reads { AreReadsKept self.now.readers.now (paths_in self.now.fields.items)
             reads.old }
-        ensures added { IfOk result (λ addition. PutsRead self.now.readers.now self.now.network
+        ensures added { IfOk result (λ addition. PutsRead self.now.readers.now self.now.kind
             self.now.name.now self.now.fields.items line.now layers.now.answers.items addition
             out.old.items out.new.items) }
         ensures kept { AreKept (layered_member self.now.readers.now self.now.name.now
@@ -269,10 +298,10 @@ impl<'a, 'f, S: AsSlice<u8> + Drop> LayeredJsonEnrichment<'a, 'f, S> {
         ensures reads { AreReadsKept self.now.readers.now (paths_in self.now.fields.items)
             reads.new }
     {
-        if self.network {
-            self.put_networked(line, layers, reads, notes, out)
-        } else {
-            self.put_kept(line, layers, cache, reads, notes, out)
+        match self.kind {
+            MemberKind::Fields => self.put_kept(line, layers, cache, reads, notes, out),
+            MemberKind::NetworkAndFields => self.put_networked(line, layers, reads, notes, out),
+            MemberKind::Records => self.put_each(line, layers, notes, out),
         }
     }
 
@@ -295,7 +324,7 @@ impl<'a, 'f, S: AsSlice<u8> + Drop> LayeredJsonEnrichment<'a, 'f, S> {
             self.now.fields.items) cache.old }
         requires reads { AreReadsKept self.now.readers.now (paths_in self.now.fields.items)
             reads.old }
-        ensures added { IfOk result (λ addition. PutsFound self.now.readers.now self.now.network
+        ensures added { IfOk result (λ addition. PutsFound self.now.readers.now self.now.kind
             self.now.nulls self.now.name.now self.now.fields.items line.now
             layers.now.answers.items addition out.old.items out.new.items) }
         ensures behind { IfOk result (λ addition. addition.behind ≤ line.now.behind) }
@@ -325,7 +354,7 @@ impl<'a, 'f, S: AsSlice<u8> + Drop> LayeredJsonEnrichment<'a, 'f, S> {
         requires reads { AreReadsKept self.now.readers.now (paths_in self.now.fields.items)
             memory.old.reads }
         ensures added { IfOk result (λ addition. PutsMemberForAll self.now.readers.now
-            self.now.network self.now.nulls self.now.name.now self.now.fields.items line.now
+            self.now.kind self.now.nulls self.now.name.now self.now.fields.items line.now
             (Some address) addition out.old.items out.new.items) }
         ensures behind { IfOk result (λ addition. addition.behind ≤ line.now.behind) }
         ensures kept { AreKept (layered_member self.now.readers.now self.now.name.now
@@ -362,7 +391,7 @@ impl<'a, 'f, S: AsSlice<u8> + Drop> LayeredJsonEnrichment<'a, 'f, S> {
         requires reads { AreReadsKept self.now.readers.now (paths_in self.now.fields.items)
             memory.old.reads }
         ensures added { IfOk result (λ addition. PutsToObjectAll self.now.readers.now
-            self.now.network self.now.nulls self.now.name.now self.now.fields.items line.now
+            self.now.kind self.now.nulls self.now.name.now self.now.fields.items line.now
             addition out.old.items out.new.items) }
         ensures behind { IfOk result (λ addition. addition.behind ≤ line.now.behind) }
         ensures kept { AreKept (layered_member self.now.readers.now self.now.name.now
@@ -384,16 +413,25 @@ impl<'a, 'f, S: AsSlice<u8> + Drop> Additions for LayeredJsonEnrichment<'a, 'f, 
     ghost use Rattle.mmdb_cmd_enrich.specs.Kept.{AreKept};
     ghost use Rattle.mmdb_cmd_enrich.specs.KeptReads.{AreReadsKept, paths_in};
     ghost use Rattle.mmdb_cmd_enrich.specs.LayeredMembers.{AddsMemberAll};
+    ghost use Rattle.mmdb_cmd_enrich.specs.Members.{object_most};
     ghost use Rattle.mmdb_cmd_enrich.specs.Wanted.{layered_member};
 
     type Memory = LayeredJsonMemory<'a, S>;
 
-    ghost adds = { λ e text goes_on extra behind outcome. AddsMemberAll e.readers.now e.network
-        e.reading e.path.items e.nulls e.name.now e.fields.items text goes_on extra behind outcome };
+    ghost adds = { λ e. record {
+      most = object_most e.reads_long;
+      adds = λ text goes_on extra behind outcome. AddsMemberAll e.readers.now e.kind e.reading
+          e.path.items e.nulls e.name.now e.fields.items text goes_on extra behind outcome;
+    } };
 
     ghost fits = { λ e memory.
         AreKept (layered_member e.readers.now e.name.now e.fields.items) memory.cache
         × AreReadsKept e.readers.now (paths_in e.fields.items) memory.reads };
+
+    #[inline(always)]
+    fn most_seen(&self) -> usize {
+        most_of_object(self.reads_long)
+    }
 
     fn add(
         &self,
@@ -405,7 +443,7 @@ impl<'a, 'f, S: AsSlice<u8> + Drop> Additions for LayeredJsonEnrichment<'a, 'f, 
         memory.notes.pass_row();
         let path = self.path.as_slice();
         let scratch = &mut memory.scratch;
-        match read_line(
+        match line_read(
             self.alloc,
             self.reading,
             text,
@@ -414,8 +452,9 @@ impl<'a, 'f, S: AsSlice<u8> + Drop> Additions for LayeredJsonEnrichment<'a, 'f, 
             self.name,
             scratch,
         )? {
-            ReadLine::Object(line) => Ok(self.put_object(&line, memory, out)?),
-            ReadLine::NoObject => Ok(nothing(Outcome::Malformed)),
+            Some(ReadLine::Object(line)) => Ok(self.put_object(&line, memory, out)?),
+            Some(ReadLine::NoObject) => Ok(nothing(Outcome::Malformed)),
+            None => Ok(nothing(Outcome::TooLong)),
         }
     }
 

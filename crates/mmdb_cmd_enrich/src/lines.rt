@@ -1,11 +1,12 @@
 //! Rows with fields after them.
 use crate::enrichment::Enrichment;
 use crate::fields::wanted_fields;
-use crate::header::column_of;
+use crate::header::{Columns, columns_of_input};
 use crate::input::{Counted, InputKind, copy_mark, kind_of_input};
 use crate::json_enrichment::{JsonEnrichment, JsonMemory};
 use crate::layered_enrichment::{LayeredEnrichment, LayeredMemory};
 use crate::layered_json_enrichment::{LayeredJsonEnrichment, LayeredJsonMemory};
+use crate::members::{MemberKind, NamedField};
 use crate::notes::Notes;
 use crate::opening::open_all;
 use crate::output::Output;
@@ -16,8 +17,9 @@ use crate::warnings::{AddressPlace, Remembering, Warnings};
 use crate::watch::Watch;
 use mmdb_arguments::EnrichArguments;
 use mmdb_console::{Console, Pace, ProgramError, ProgressLine, line_of};
-use mmdb_filter::{Additions, Counts, Live, Rows, filter_rows};
-use mmdb_layout::Database;
+use mmdb_filter::{Additions, Counts, Live, MOST_ASKED, Rows, filter_rows, has_room};
+use mmdb_layout::{Database, keys_of_all};
+use mmdb_reader::PathElement;
 use std::alloc::{AllocError, Global};
 use std::cell::Cell;
 use std::env::Env;
@@ -26,8 +28,31 @@ use std::mem;
 use std::rt::Files;
 use std::time::Clock;
 
-// How rows fared, in words.
-fn text_of_rows(alloc: Global, counts: Counts) -> Result<String, AllocError> {
+/// What the names of records may not be: `show` has the address under it.
+const ADDRESS: &str = "address";
+
+// Adds how many rows are besides so, and the first of them, where there are some.
+fn push_named(
+    alloc: Global,
+    count: u64,
+    so: &str,
+    first: Option<u64>,
+    text: &mut String,
+) -> Result<(), AllocError> {
+    let Some(first) = first else {
+        return Ok(());
+    };
+    let more: String = format!(in alloc; ", {count} {so}, the first in row {first}")?;
+    text.push_str(more.as_str())
+}
+
+// How rows fared, in words, with those that have more cells than the first row.
+fn text_of_rows(
+    alloc: Global,
+    counts: Counts,
+    wider: u64,
+    first: Option<u64>,
+) -> Result<String, AllocError> {
     let Counts {
         found,
         absent,
@@ -35,9 +60,17 @@ fn text_of_rows(alloc: Global, counts: Counts) -> Result<String, AllocError> {
         rejected,
         ..
     } = counts;
-    format!(in alloc;
-        "mmdb: {found} lines with a record, {absent} without, {unreadable} without an address, {rejected} with an error\n"
-    )
+    let mut text = format!(in alloc;
+        "mmdb: {found} lines with a record, {absent} without, {unreadable} without an address, {rejected} with an error"
+    )?;
+    push_named(
+        alloc,
+        wider,
+        "with more cells than the first line",
+        first,
+        &mut text,
+    )?;
+    line_of(alloc, Ok(text))
 }
 
 // How lines of JSON fared, in words.
@@ -55,21 +88,29 @@ fn text_of_objects(alloc: Global, counts: Counts) -> Result<String, AllocError> 
     )
 }
 
-// The same with those that have the member already, where there are some.
+// The same with those that are too long, and those that have the member already, where there are some.
 fn text_of_members(
     alloc: Global,
     counts: Counts,
     name: &str,
-    first: Option<u64>,
+    notes: &Warnings<'_>,
 ) -> Result<String, AllocError> {
     let mut text = text_of_objects(alloc, counts)?;
-    if let Some(first) = first {
-        let occupied = counts.occupied;
-        let more: String = format!(in alloc;
-            ", {occupied} with a member {name} already, the first in row {first}"
-        )?;
-        text.push_str(more.as_str())?;
-    }
+    push_named(
+        alloc,
+        counts.too_long,
+        "too long",
+        notes.too_long,
+        &mut text,
+    )?;
+    let already: String = format!(in alloc; "with a member {name} already")?;
+    push_named(
+        alloc,
+        counts.occupied,
+        already.as_str(),
+        notes.occupied,
+        &mut text,
+    )?;
     line_of(alloc, Ok(text))
 }
 
@@ -159,7 +200,9 @@ fn filter<A: Additions, R: Files + Clock, I: Live, O: Write, E: Pace>(
         &mut watch,
     );
     watch.clear();
-    passage.notes.add(watch.quoted, watch.occupied);
+    passage
+        .notes
+        .add(watch.quoted, watch.occupied, watch.too_long);
     passage.bytes = bytes.get();
     let filtered = out.of_filter(filtered)?;
     passage.counts = filtered.counts;
@@ -201,6 +244,7 @@ fn finish<O: Write, E: Pace>(
     console: &mut Console<'_, O, E>,
 ) -> Result<u8, ProgramError> {
     console.flush()?;
+    console.rows_are_whole = true;
     let counts = passage.counts;
     passage
         .notes
@@ -287,7 +331,7 @@ fn enrich_columns<R: Files + Clock, I: Live, O: Write, E: Pace>(
     databases: &[Database],
     names: &[&str],
     task: RowsTask<'_>,
-    column: usize,
+    columns: Columns,
     input: &mut I,
     passage: &mut Passage<'_, '_>,
     console: &mut Console<'_, O, E>,
@@ -300,7 +344,8 @@ fn enrich_columns<R: Files + Clock, I: Live, O: Write, E: Pace>(
             reader: database,
             reading: task.reading,
             rows: task.rows,
-            column,
+            column: columns.address,
+            breaks: columns.breaks,
             paths: task.paths,
         };
         return enrich_rows(rt, &enrichment, databases, input, passage, console);
@@ -311,11 +356,78 @@ fn enrich_columns<R: Files + Clock, I: Live, O: Write, E: Pace>(
         names: names_said(names),
         reading: task.reading,
         rows: task.rows,
-        column,
+        column: columns.address,
+        breaks: columns.breaks,
         network: task.network,
         paths: task.paths,
     };
     enrich_layered(rt, &enrichment, input, passage, console)
+}
+
+// The fields that are the records of so many databases.
+fn record_fields<'k>(alloc: Global, keys: &'k [String]) -> Result<Vec<NamedField<'k>>, AllocError> {
+    let mut fields = Vec::new(alloc);
+    for (number, key) in keys.iter().enumerate() {
+        let mut path = Vec::new(alloc);
+        path.push(PathElement::Index(number))?;
+        fields.push(NamedField {
+            name: key.as_str(),
+            path,
+        })?;
+    }
+    Ok(fields)
+}
+
+// What the member of several databases has.
+fn kind_of(task: &JsonTask<'_>) -> MemberKind {
+    if task.network {
+        MemberKind::NetworkAndFields
+    } else if task.fields.is_empty() {
+        MemberKind::Records
+    } else {
+        MemberKind::Fields
+    }
+}
+
+// The fields that a member has: the records by these names, or those that are asked for.
+fn fields_of<'k>(
+    alloc: Global,
+    kind: MemberKind,
+    keys: &'k [String],
+    asked: Vec<NamedField<'k>>,
+) -> Result<Vec<NamedField<'k>>, AllocError> {
+    if kind == MemberKind::Records {
+        record_fields(alloc, keys)
+    } else {
+        Ok(asked)
+    }
+}
+
+// Copies lines with a member more in each object, of several databases, whose records have these keys.
+fn enrich_several<R: Files + Clock, I: Live, O: Write, E: Pace>(
+    rt: &R,
+    databases: &[Database],
+    names: &[&str],
+    keys: &[String],
+    task: JsonTask<'_>,
+    input: &mut I,
+    passage: &mut Passage<'_, '_>,
+    console: &mut Console<'_, O, E>,
+) -> Result<bool, ProgramError> {
+    let kind = kind_of(&task);
+    let enrichment = LayeredJsonEnrichment {
+        alloc: console.alloc,
+        readers: databases,
+        names: names_said(names),
+        reading: task.reading,
+        path: task.path,
+        name: task.into,
+        nulls: task.nulls,
+        kind,
+        reads_long: has_room(console.alloc, MOST_ASKED),
+        fields: fields_of(console.alloc, kind, keys, task.fields)?,
+    };
+    enrich_layered_objects(rt, &enrichment, input, passage, console)
 }
 
 // Copies lines with a member more in each object, up to the input's end or until a file was replaced, and says whether that
@@ -339,22 +451,22 @@ fn enrich_json<R: Files + Clock, I: Live, O: Write, E: Pace>(
             path: task.path,
             name: task.into,
             nulls: task.nulls,
+            reads_long: has_room(console.alloc, MOST_ASKED),
             fields: task.fields,
         };
         return enrich_objects(rt, &enrichment, databases, input, passage, console);
     }
-    let enrichment = LayeredJsonEnrichment {
-        alloc: console.alloc,
-        readers: databases,
-        names: names_said(names),
-        reading: task.reading,
-        path: task.path,
-        name: task.into,
-        nulls: task.nulls,
-        network: task.network,
-        fields: task.fields,
-    };
-    enrich_layered_objects(rt, &enrichment, input, passage, console)
+    let keys = keys_of_all(console.alloc, names, databases, ADDRESS)?;
+    enrich_several(
+        rt,
+        databases,
+        names,
+        keys.as_slice(),
+        task,
+        input,
+        passage,
+        console,
+    )
 }
 
 // Copies lines with a member more in each object, of one database.
@@ -408,7 +520,7 @@ fn copy_columns<R: Files + Clock, I: Live, O: Write, E: Pace>(
     databases: &mut Vec<Database>,
     names: &[&str],
     arguments: &EnrichArguments<'_>,
-    column: usize,
+    columns: Columns,
     input: &mut I,
     passage: &mut Passage<'_, '_>,
     console: &mut Console<'_, O, E>,
@@ -417,7 +529,7 @@ fn copy_columns<R: Files + Clock, I: Live, O: Write, E: Pace>(
         take_new(rt, databases, passage, console);
         let task = rows_task(console.alloc, &*arguments)?;
         let at_hand = databases.as_slice();
-        if enrich_columns(rt, at_hand, names, task, column, input, passage, console)? {
+        if enrich_columns(rt, at_hand, names, task, columns, input, passage, console)? {
             return Ok(());
         }
     }
@@ -466,11 +578,16 @@ fn enrich_all_rows<R: Files + Clock, I: Live, O: Write, E: Pace>(
     console: &mut Console<'_, O, E>,
 ) -> Result<u8, ProgramError> {
     copy_mark(input, console.out)?;
-    let column = column_of(console.alloc, task, input, console.out)?;
+    let columns = columns_of_input(console.alloc, task, input, console.out)?;
     copy_columns(
-        rt, databases, names, arguments, column, input, passage, console,
+        rt, databases, names, arguments, columns, input, passage, console,
     )?;
-    let text = text_of_rows(console.alloc, passage.counts);
+    let before = passage.notes.before;
+    let first = passage
+        .records
+        .first_wider
+        .map(|row| row.saturating_add(before));
+    let text = text_of_rows(console.alloc, passage.counts, passage.records.wider, first);
     finish(databases.as_slice(), text, passage, console)
 }
 
@@ -487,8 +604,7 @@ fn enrich_all_objects<R: Files + Clock, I: Live, O: Write, E: Pace>(
 ) -> Result<u8, ProgramError> {
     copy_mark(input, console.out)?;
     copy_objects(rt, databases, names, arguments, input, passage, console)?;
-    let first = passage.notes.occupied;
-    let text = text_of_members(console.alloc, passage.counts, name, first);
+    let text = text_of_members(console.alloc, passage.counts, name, &*passage.notes);
     finish(databases.as_slice(), text, passage, console)
 }
 

@@ -1,9 +1,9 @@
 //! The member that is added to an object.
-ghost use Rattle.std.specs.Prelude.{◌≡◌, ◌++◌, List, Option, Some, None, false, OnOk, IfOk, IfErr, IfSome, IfNone};
+ghost use Rattle.std.specs.Prelude.{◌≡◌, ◌++◌, List, [], Option, Some, None, false, OnOk, IfOk, IfErr, IfSome, IfNone};
 ghost use Rattle.std.specs.List.{slice_get};
-ghost use Rattle.mmdb_cmd_enrich.specs.Fields.{HasUnreadField, IsMember, IsMemberAfter, IsNullMember, IsNullMemberAfter, network_tokens, null_fields};
+ghost use Rattle.mmdb_cmd_enrich.specs.Fields.{HasUnreadField, IsMember, IsMemberAfter, IsNullMember, IsNullMemberAfter, IsUnread, network_tokens, null_fields, null_values};
 ghost use Rattle.mmdb_cmd_enrich.specs.KeptReads.{paths_in, said};
-ghost use Rattle.mmdb_cmd_enrich.specs.Working.{PutsValue, PutsFields, PutsFieldsAfter, PutsFieldsOf};
+ghost use Rattle.mmdb_cmd_enrich.specs.Working.{PutsValue, PutsFields, PutsFieldsAfter, PutsFieldsOf, PutsValuesAfter, PutsWhole};
 ghost use Rattle.mmdb_decode.specs.Errors.{Fails};
 ghost use Rattle.mmdb_format.specs.Error.{MemoryApart};
 ghost use Rattle.mmdb_format.specs.Unfolding.{Tree};
@@ -24,6 +24,17 @@ pub struct NamedField<'f> {
     pub name: &'f str,
     /// Where in the record it is.
     pub path: Vec<PathElement<'f>>,
+}
+
+/// What a member of several databases has.
+#[derive(Clone, Copy, PartialEq, Eq)]
+pub enum MemberKind {
+    /// Fields, each of the first record that has it.
+    Fields,
+    /// The network of the address, and fields.
+    NetworkAndFields,
+    /// The records: each field is one, and the first step of its path is the number of its database.
+    Records,
 }
 
 // Writes a value that is kept, or null where nothing is there.
@@ -160,7 +171,51 @@ fn put_member<'a, R: ReadFields<'a>>(
     Ok(())
 }
 
-/// The text of a member with fields, or none where one failed.
+// Writes a member with all that is read.
+fn put_whole<'a, R: ReadFields<'a>>(
+    alloc: Global,
+    found: &R,
+    name: &str,
+    out: &mut Writer,
+) -> Result<(), MaxMindDbError>
+    ensures whole { OnOk result
+        (PutsWhole (R.reads found.now 0) name.now out.old.tokens out.new.tokens) }
+    ensures rejected { IfErr result (λ e. Fails false e (R.reads found.now 0 [])) }
+    ensures before { out.new.before ≡ out.old.before }
+{
+    out.token(Token::Key(name))?;
+    match &found.read_all(alloc)? {
+        Some(value) => write_value(alloc, value, out)?,
+        None => out.token(Token::Null)?,
+    }
+    Ok(())
+}
+
+// Writes a member with the fields, or, without a field, with all that is read.
+fn put_values<'a, R: ReadFields<'a>>(
+    alloc: Global,
+    found: &R,
+    kept: &mut R::Kept,
+    name: &str,
+    fields: &[NamedField<'_>],
+    out: &mut Writer,
+) -> Result<(), MaxMindDbError>
+    requires { R.keeps found.now (paths_in fields.now) kept.old }
+    ensures member { OnOk result (PutsValuesAfter [] (R.reads found.now 0) name.now fields.now
+        out.old.tokens out.new.tokens) }
+    ensures rejected { IfErr result (λ e.
+        MemoryApart e (IsUnread (R.reads found.now 0) fields.now)) }
+    ensures kept { R.keeps found.now (paths_in fields.now) kept.new }
+    ensures before { out.new.before ≡ out.old.before }
+{
+    if fields.is_empty() {
+        put_whole(alloc, found, name, out)
+    } else {
+        put_member(alloc, found, kept, name, fields, out)
+    }
+}
+
+/// The text of a member with fields, or, without a field, with all that is read; none where something of it failed.
 pub(crate) fn member_of<'a, R: ReadFields<'a>>(
     alloc: Global,
     found: &R,
@@ -172,11 +227,11 @@ pub(crate) fn member_of<'a, R: ReadFields<'a>>(
     ensures some { IfOk result (λ member. IfSome member (λ text.
         IsMember (R.reads found.now 0) name.now fields.now text.items)) }
     ensures none { IfOk result (λ member.
-        IfNone member (HasUnreadField (R.reads found.now 0) fields.now)) }
+        IfNone member (IsUnread (R.reads found.now 0) fields.now)) }
     ensures kept { R.keeps found.now (paths_in fields.now) kept.new }
 {
     let mut out = Writer::new(Vec::with_capacity(alloc, 256)?);
-    match put_member(alloc, found, kept, name, fields, &mut out) {
+    match put_values(alloc, found, kept, name, fields, &mut out) {
         Ok(()) => Ok(Some(out.into_inner())),
         Err(MaxMindDbError::Memory) => Err(AllocError),
         Err(_) => Ok(None),
@@ -209,7 +264,33 @@ fn put_network_member<'a, R: ReadFields<'a>>(
     Ok(())
 }
 
-/// The text of a member with a network and fields, or none where one of these failed.
+// Writes a member with a network and the fields, or, without a field, with all that is read.
+fn put_network_values<'a, R: ReadFields<'a>>(
+    alloc: Global,
+    network: Option<IpNetwork>,
+    found: &R,
+    kept: &mut R::Kept,
+    name: &str,
+    fields: &[NamedField<'_>],
+    out: &mut Writer,
+) -> Result<(), MaxMindDbError>
+    requires { R.keeps found.now (paths_in fields.now) kept.old }
+    ensures member { OnOk result (PutsValuesAfter (network_tokens network) (R.reads found.now 0)
+        name.now fields.now out.old.tokens out.new.tokens) }
+    ensures rejected { IfErr result (λ e.
+        MemoryApart e (IsUnread (R.reads found.now 0) fields.now)) }
+    ensures kept { R.keeps found.now (paths_in fields.now) kept.new }
+    ensures before { out.new.before ≡ out.old.before }
+{
+    if fields.is_empty() {
+        put_whole(alloc, found, name, out)
+    } else {
+        put_network_member(alloc, network, found, kept, name, fields, out)
+    }
+}
+
+/// The text of a member with a network and fields, or, without a field, with all that is read; none where something of it
+/// failed.
 pub(crate) fn network_member_of<'a, R: ReadFields<'a>>(
     alloc: Global,
     network: Option<IpNetwork>,
@@ -222,11 +303,11 @@ pub(crate) fn network_member_of<'a, R: ReadFields<'a>>(
     ensures some { IfOk result (λ member. IfSome member (λ text. IsMemberAfter
         (network_tokens network) (R.reads found.now 0) name.now fields.now text.items)) }
     ensures none { IfOk result (λ member.
-        IfNone member (HasUnreadField (R.reads found.now 0) fields.now)) }
+        IfNone member (IsUnread (R.reads found.now 0) fields.now)) }
     ensures kept { R.keeps found.now (paths_in fields.now) kept.new }
 {
     let mut out = Writer::new(Vec::with_capacity(alloc, 256)?);
-    match put_network_member(alloc, network, found, kept, name, fields, &mut out) {
+    match put_network_values(alloc, network, found, kept, name, fields, &mut out) {
         Ok(()) => Ok(Some(out.into_inner())),
         Err(MaxMindDbError::Memory) => Err(AllocError),
         Err(_) => Ok(None),
@@ -246,7 +327,20 @@ fn put_nulls(fields: &[NamedField<'_>], out: &mut Writer) -> Result<(), AllocErr
     Ok(())
 }
 
-/// The text of a member with every field null.
+// Writes an object with every field null, or, without a field, null itself.
+fn put_null_values(fields: &[NamedField<'_>], out: &mut Writer) -> Result<(), AllocError>
+    ensures values { OnOk result (out.new.tokens ≡ out.old.tokens ++ null_values [] fields.now) }
+    ensures before { out.new.before ≡ out.old.before }
+{
+    if fields.is_empty() {
+        return out.token(Token::Null);
+    }
+    out.token(Token::BeginObject)?;
+    put_nulls(fields, out)?;
+    out.token(Token::EndObject)
+}
+
+/// The text of a member with every field null, or, without a field, null itself.
 pub(crate) fn null_member(
     alloc: Global,
     name: &str,
@@ -256,13 +350,30 @@ pub(crate) fn null_member(
 {
     let mut out = Writer::new(Vec::with_capacity(alloc, 256)?);
     out.token(Token::Key(name))?;
-    out.token(Token::BeginObject)?;
-    put_nulls(fields, &mut out)?;
-    out.token(Token::EndObject)?;
+    put_null_values(fields, &mut out)?;
     Ok(out.into_inner())
 }
 
-/// The text of a member with a network and every field null.
+// Writes an object with no network and every field null, or, without a field, null itself.
+fn put_null_network_values(
+    alloc: Global,
+    fields: &[NamedField<'_>],
+    out: &mut Writer,
+) -> Result<(), AllocError>
+    ensures values { OnOk result
+        (out.new.tokens ≡ out.old.tokens ++ null_values (network_tokens None) fields.now) }
+    ensures before { out.new.before ≡ out.old.before }
+{
+    if fields.is_empty() {
+        return out.token(Token::Null);
+    }
+    out.token(Token::BeginObject)?;
+    put_network(alloc, None, out)?;
+    put_nulls(fields, out)?;
+    out.token(Token::EndObject)
+}
+
+/// The text of a member with a network and every field null, or, without a field, null itself.
 pub(crate) fn null_network_member(
     alloc: Global,
     name: &str,
@@ -273,9 +384,6 @@ pub(crate) fn null_network_member(
 {
     let mut out = Writer::new(Vec::with_capacity(alloc, 256)?);
     out.token(Token::Key(name))?;
-    out.token(Token::BeginObject)?;
-    put_network(alloc, None, &mut out)?;
-    put_nulls(fields, &mut out)?;
-    out.token(Token::EndObject)?;
+    put_null_network_values(alloc, fields, &mut out)?;
     Ok(out.into_inner())
 }

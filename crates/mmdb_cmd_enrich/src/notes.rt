@@ -1,9 +1,9 @@
 //! What is noted of the records that are read, so that it can be said at the end what was amiss.
 use crate::asked::asked_of;
 use crate::layers::{Layers, can_ask_any, offset_of};
+use mmdb_found::value_along;
 use mmdb_layout::ReadAlong;
 use mmdb_reader::{LookupResult, MaxMindDbError, PathElement, Reader};
-use mmdb_value::Value;
 use std::alloc::{AllocError, Global};
 use std::convert::AsSlice;
 use std::net::IpAddr;
@@ -41,6 +41,10 @@ pub struct Notes {
     pub rows: u64,
     /// How many rows have an address that no database can be asked for: one of IPv6, where they have IPv4 alone.
     pub unasked: u64,
+    /// How many rows have more cells than the first one, which names the columns.
+    pub wider: u64,
+    /// The number of the first of them.
+    pub first_wider: Option<u64>,
     /// The first rows whose record can't be read, at most 10.
     pub failures: Vec<RowFailure>,
     /// Of each field whether a record had a value there. A field at which none is noted had none.
@@ -67,6 +71,8 @@ impl Notes {
         Notes {
             rows: 0,
             unasked: 0,
+            wider: 0,
+            first_wider: None,
             failures: Vec::new(alloc),
             met: Vec::new(alloc),
             records: Vec::new(alloc),
@@ -77,6 +83,14 @@ impl Notes {
     #[inline(always)]
     pub(crate) fn pass_row(&mut self) {
         self.rows = self.rows.wrapping_add(1);
+    }
+
+    /// Notes that this row has more cells than the first one.
+    pub(crate) fn note_wider(&mut self) {
+        self.wider = self.wider.saturating_add(1);
+        if self.first_wider.is_none() {
+            self.first_wider = Some(self.rows);
+        }
     }
 
     // Whether it is noted already why the record of this row can't be read, or there is no room for that.
@@ -182,8 +196,7 @@ impl Notes {
         if are_read && self.has_met(field) {
             return;
         }
-        let read: Result<Option<Value<'_>>, MaxMindDbError> = found.decode_path(alloc, path);
-        match read {
+        match value_along(alloc, found, path) {
             Ok(Some(_)) => {
                 let _ = self.note_met(field);
             }
@@ -218,6 +231,27 @@ impl Notes {
                 }
                 Ok(None) => {}
                 Err(error) => return self.note_failure(alloc, names.get(at).copied(), &error),
+            }
+        }
+    }
+
+    /// Notes in which of several databases the record of this row can't be read, where one can't.
+    #[inline(never)]
+    pub(crate) fn note_unread<S: AsSlice<u8> + Drop>(
+        &mut self,
+        alloc: Global,
+        names: &[&str],
+        layers: &Layers<'_, S>,
+        are_read: bool,
+    ) {
+        if are_read {
+            return;
+        }
+        for (at, answer) in layers.answers.iter().enumerate() {
+            if let Some(found) = answer
+                && let Err(error) = found.read_along(alloc, &[])
+            {
+                return self.note_failure(alloc, names.get(at).copied(), &error);
             }
         }
     }

@@ -1,6 +1,6 @@
 //! The files of the databases in which rows are looked up.
 use crate::reload::Lookout;
-use mmdb_console::{BAD_ARGUMENTS, Console, FAILED, Pace, line_of, opened};
+use mmdb_console::{BAD_ARGUMENTS, Console, FAILED, Pace, line_of, opened, reported};
 use mmdb_layout::{Database, Opened, open_found, path_or};
 use mmdb_reader::MaxMindDbError;
 use std::alloc::AllocError;
@@ -30,7 +30,8 @@ fn status_of<O: Write, E: Pace>(
     BAD_ARGUMENTS
 }
 
-// Opens a file, or answers the status where it has an error, which is reported.
+// Opens a file, or answers the status where it has an error, which is reported. How one is unpacked is said of the first alone:
+// another one is a log more often, which is no database when it is unpacked.
 fn open_one<R: Files + Env, O: Write, E: Pace>(
     rt: &R,
     name: &str,
@@ -40,9 +41,15 @@ fn open_one<R: Files + Env, O: Write, E: Pace>(
 ) -> Result<Option<u8>, AllocError> {
     let mark = lookout.mark_of(rt, name);
     let Opened { path, got } = open_found(rt, name, console);
+    let is_first = databases.is_empty();
     let is_no_database = matches!(got, Err(MaxMindDbError::InvalidDatabase { .. }));
-    let Some(database) = opened(rt, path_or(&path, name), got, console) else {
-        let is_first = databases.is_empty();
+    let file = path_or(&path, name);
+    let got = if is_first {
+        opened(rt, file, got, console)
+    } else {
+        reported(file, got, console)
+    };
+    let Some(database) = got else {
         return Ok(Some(status_of(name, is_first, is_no_database, console)));
     };
     databases.push(database)?;

@@ -32,6 +32,8 @@ impl<'o, O: Write> Output<'o, O> {
 }
 
 impl<'o, O: Write> Write for Output<'o, O> {
+    ghost contents = { λ output. O.contents output.out.now };
+
     #[inline(always)]
     fn write(&mut self, bytes: &[u8]) -> io::Result<usize> {
         match self.out.write(bytes) {

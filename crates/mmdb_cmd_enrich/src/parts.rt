@@ -5,9 +5,10 @@ ghost use Rattle.mmdb_addresses.specs.Addresses.{ReadsAddress};
 ghost use Rattle.mmdb_addresses.specs.Cells.{first_word};
 ghost use Rattle.mmdb_filter.specs.declared.rows.RowPosition.TheVariants.{Cell};
 ghost use Rattle.mmdb_filter.specs.declared.rows.Rows.TheVariants.{Lines};
-ghost use Rattle.mmdb_cmd_enrich.specs.Columns.{cell_length, column_of, value_of};
+ghost use Rattle.mmdb_cmd_enrich.specs.Asked.{cell_read};
+ghost use Rattle.mmdb_cmd_enrich.specs.Columns.{cell_length};
 
-use crate::columns::cell_of;
+use crate::columns::{cell_of, cell_of_long};
 use mmdb_addresses::Reading;
 use mmdb_filter::{Rows, either_from};
 
@@ -62,8 +63,7 @@ fn front_read(
 ) -> Option<&[u8]>
     ensures { IfSome result (λ front. (found : Option SpecIpAddr)
         → ReadsAddress reading (Some front.now) found
-        → ReadsAddress reading
-        (option_map (value_of rows) (column_of rows goes_on column row.now)) found) }
+        → ReadsAddress reading (cell_read rows reading column row.now goes_on) found) }
 {
     let Rows::Lines { delimiter } = rows else {
         return None;
@@ -78,7 +78,8 @@ fn front_read(
 }
 
 /// What is read of the cell of a column: what it holds, or of a line's first cell what has its first word, since all of the
-/// line may be one cell. Where it is to be kept it is the front of the line, else no end is looked for.
+/// line may be one cell. Where it is to be kept it is the front of the line, else no end is looked for. Of a cell of which the
+/// end is not seen its first word is read all the same, where that ends.
 #[inline(always)]
 pub(crate) fn part_of(
     rows: Rows,
@@ -90,11 +91,13 @@ pub(crate) fn part_of(
 ) -> Option<&[u8]>
     ensures { (found : Option SpecIpAddr)
         → ReadsAddress reading (option_map (λ s. s.now) result) found
-        → ReadsAddress reading
-        (option_map (value_of rows) (column_of rows goes_on column row.now)) found }
+        → ReadsAddress reading (cell_read rows reading column row.now goes_on) found }
 {
     if let Some(front) = front_read(rows, reading, row, goes_on, column, is_kept) {
         return Some(front);
     }
-    cell_of(rows, row, goes_on, column)
+    if goes_on {
+        return cell_of_long(rows, reading, row, column);
+    }
+    cell_of(rows, row, false, column)
 }

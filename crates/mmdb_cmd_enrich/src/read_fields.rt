@@ -1,15 +1,18 @@
 //! Values of fields in records.
-ghost use Rattle.std.specs.Prelude.{◌≡◌, ℕ, Option, List, Some, IfSome};
+ghost use Rattle.std.specs.Prelude.{◌≡◌, ℕ, Option, List, [], Some, IfSome};
 ghost use Rattle.std.specs.List.{slice_get};
 ghost use Rattle.mmdb_format.specs.Unfolding.{Tree};
 ghost use Rattle.mmdb_layout.specs.Reading.{IsReadAs, reads_found, reads_of};
 ghost use Rattle.mmdb_reader.specs.File.{Database};
 ghost use Rattle.mmdb_reader.specs.declared.path.PathElement.{PathElement as SpecPathElement};
 ghost use Rattle.mmdb_cmd_enrich.specs.KeptReads.{AreReadsKept, IsPlaceOf, said};
+ghost use Rattle.mmdb_cmd_enrich.specs.Records.{answer_read, each_read_of};
 ghost use Rattle.mmdb_cmd_enrich.specs.Working.{IsFieldOf, IsKeyOf};
 
 use crate::kept_reads::{KeptRead, KeptReads, ReadKey};
 use crate::layers::Layers;
+use mmdb_found::value_along;
+use mmdb_layout::ReadAlong;
 use mmdb_reader::{LookupResult, MaxMindDbError, PathElement};
 use mmdb_value::Value;
 use std::alloc::Global;
@@ -57,6 +60,10 @@ pub(crate) trait ReadFields<'a> {
             → keeps self.now paths kept.old → IsReadAs (reads self.now from path.now) result }
         ensures kept { (paths : List (List SpecPathElement)) → slice_get paths field ≡ Some path.now
             → keeps self.now paths kept.old → keeps self.now paths kept.new };
+
+    /// All of the first record that there is, or none. Fails, unless out of memory, where it can't be read.
+    fn read_all(&self, alloc: Global) -> Result<Option<Value<'_>>, MaxMindDbError>
+        ensures { IsReadAs (reads self.now 0 []) result };
 }
 
 /// Of one record nothing is kept here.
@@ -86,6 +93,10 @@ impl<'a, S: AsSlice<u8> + Drop> ReadFields<'a> for LookupResult<'a, S> {
     ) -> Result<Option<Value<'a>>, MaxMindDbError> {
         read_whole(alloc, self, path)
     }
+
+    fn read_all(&self, alloc: Global) -> Result<Option<Value<'_>>, MaxMindDbError> {
+        read_whole(alloc, self, &[])
+    }
 }
 
 // The value at the end of a path in a record. It is borrowed from the database.
@@ -97,7 +108,7 @@ fn read_whole<'a, S: AsSlice<u8> + Drop>(
 ) -> Result<Option<Value<'a>>, MaxMindDbError>
     ensures { IsReadAs (reads_found found.now path.now) result }
 {
-    found.decode_path(alloc, path)
+    value_along(alloc, found, path)
 }
 
 // The value of a field in a record, read anew and kept.
@@ -219,6 +230,84 @@ impl<'a, S: AsSlice<u8> + Drop> ReadFields<'a> for Layers<'a, S> {
                 Err(error) => return Err(error),
             }
         }
+        Ok(None)
+    }
+
+    fn read_all(&self, alloc: Global) -> Result<Option<Value<'_>>, MaxMindDbError> {
+        self.answers.read_along(alloc, &[])
+    }
+}
+
+// The value at the end of a path in the record of an answer, or none where there is no record.
+fn read_answer<'a, S: AsSlice<u8> + Drop>(
+    alloc: Global,
+    answer: &Option<LookupResult<'a, S>>,
+    path: &[PathElement<'_>],
+) -> Result<Option<Value<'a>>, MaxMindDbError>
+    ensures { IsReadAs (reads_of answer.now path.now) result }
+{
+    match answer {
+        Some(found) => read_whole(alloc, found, path),
+        None => Ok(None),
+    }
+}
+
+// The value at the end of a path in the record of the answer of a number, or none where there is none.
+fn read_numbered<'a, S: AsSlice<u8> + Drop>(
+    alloc: Global,
+    answers: &[Option<LookupResult<'a, S>>],
+    number: usize,
+    path: &[PathElement<'_>],
+) -> Result<Option<Value<'a>>, MaxMindDbError>
+    ensures { IsReadAs (answer_read answers.now number path.now) result }
+{
+    if number >= answers.len() {
+        return Ok(None);
+    }
+    read_answer(alloc, &answers[number], path)
+}
+
+// The value at the end of a path whose first step is the number of an answer, or none where there is none.
+fn read_each<'a, S: AsSlice<u8> + Drop>(
+    alloc: Global,
+    answers: &[Option<LookupResult<'a, S>>],
+    path: &[PathElement<'_>],
+) -> Result<Option<Value<'a>>, MaxMindDbError>
+    ensures { IsReadAs (each_read_of answers.now path.now) result }
+{
+    match path {
+        [PathElement::Index(number), rest @ ..] => read_numbered(alloc, answers, *number, rest),
+        _ => Ok(None),
+    }
+}
+
+/// Answers of several databases, of which each record is read for itself: the first step of a path is the number of a database.
+impl<'a, S: AsSlice<u8> + Drop> ReadFields<'a> for Vec<Option<LookupResult<'a, S>>> {
+    ghost use Rattle.std.specs.Prelude.{⊤};
+    ghost use Rattle.mmdb_cmd_enrich.specs.Records.{each_read_of};
+
+    type Kept = ();
+
+    ghost reads = { λ answers from. each_read_of answers.items };
+
+    ghost keeps = { λ answers paths kept. ⊤ };
+
+    fn place_of(&self, _kept: &(), _field: usize) -> FieldPlace<'a> {
+        FieldPlace::From(0)
+    }
+
+    fn read_field(
+        &self,
+        alloc: Global,
+        _kept: &mut (),
+        _from: usize,
+        _field: usize,
+        path: &[PathElement<'_>],
+    ) -> Result<Option<Value<'a>>, MaxMindDbError> {
+        read_each(alloc, self.as_slice(), path)
+    }
+
+    fn read_all(&self, _alloc: Global) -> Result<Option<Value<'_>>, MaxMindDbError> {
         Ok(None)
     }
 }

@@ -1,4 +1,6 @@
 //! Files of databases that are replaced while rows pass.
+ghost use Rattle.std.specs.Prelude.{◌≡◌};
+
 use mmdb_console::{Console, line_of};
 use mmdb_layout::Database;
 use mmdb_reader::Reader;
@@ -22,9 +24,12 @@ pub(crate) struct FileMark {
     nanoseconds: i64,
 }
 
-// What tells the file at a path from others, if there is one.
+// What tells the file at a path from others, if there is a plain one. A pipe may make who opens it wait without end.
 fn mark_of<R: Files>(rt: &R, path: &str) -> Option<FileMark> {
     let found = fs::metadata(rt, path).ok()?;
+    if !found.is_file() {
+        return None;
+    }
     Some(FileMark {
         device: found.dev(),
         inode: found.ino(),
@@ -114,7 +119,9 @@ impl Lookout {
     }
 
     /// Whether a file was replaced, as far as it is time to look.
-    pub(crate) fn look<R: Files + Clock>(&mut self, rt: &R) -> bool {
+    pub(crate) fn look<R: Files + Clock>(&mut self, rt: &R) -> bool
+        ensures { result ≡ self.new.has_seen }
+    {
         if self.is_wanted && self.is_due(rt) {
             for file in &self.files {
                 self.has_seen |= file.other(rt).is_some();

@@ -58,6 +58,7 @@ pub(crate) struct JsonTask<'a> {
     pub(crate) nulls: bool,
     /// Whether the network of the address comes before the fields.
     pub(crate) network: bool,
+    /// Without one the member is the record.
     pub(crate) fields: Vec<NamedField<'a>>,
 }
 
@@ -96,6 +97,7 @@ fn rows_of(alloc: Global, delimiter: Option<&str>, no_quotes: bool) -> Result<Ro
 // Where in a cell, a string or a row the address is.
 fn reading_of(arguments: &EnrichArguments<'_>) -> Reading {
     match arguments.hop {
+        Hop::Last if arguments.anywhere => Reading::LastAnywhere,
         _ if arguments.anywhere => Reading::Anywhere,
         _ if arguments.exact => Reading::Exact,
         Hop::First => Reading::First,
@@ -103,18 +105,12 @@ fn reading_of(arguments: &EnrichArguments<'_>) -> Reading {
     }
 }
 
-// That an option is given where it does nothing: where an address is looked for anywhere it is no cell's, nor one of a list.
+// The same, or that an option is given where it does nothing: where an address is looked for anywhere it is no cell's.
 fn tested_reading(alloc: Global, arguments: &EnrichArguments<'_>) -> Result<Reading, NoRequest> {
-    let idle = match arguments.hop {
-        _ if !arguments.anywhere => None,
-        _ if arguments.exact => Some("--exact"),
-        Hop::Last => Some("--hop"),
-        Hop::First => None,
-    };
-    match idle {
-        Some(option) => Err(NoRequest::bad_argument(alloc, option, "of no use with --anywhere")),
-        None => Ok(reading_of(arguments)),
+    if arguments.anywhere && arguments.exact {
+        return Err(NoRequest::bad_argument(alloc, "--exact", "of no use with --anywhere"));
     }
+    Ok(reading_of(arguments))
 }
 
 // The error of a delimiter that can separate no cells.
@@ -128,23 +124,15 @@ type FieldColumns<'a> = (Vec<&'a str>, Vec<Vec<PathElement<'a>>>);
 /// What a name of a column is that no row can have.
 const BROKEN_ROW: &str = "a name with what separates columns or lines";
 
-/// What `--json` is without a field where there are several databases.
-const FIELDLESS: &str = "needs a --field where there are several databases";
-
 /// What `--network` is without a field in objects.
 const FIELDLESS_NETWORK: &str = "with --json needs a --field; --field record= has the whole record";
 
-// That there is a field where objects need one: with the network, and of several databases.
+// That there is a field where objects need one: with the network.
 fn test_fields(alloc: Global, arguments: &EnrichArguments<'_>) -> Result<(), NoRequest> {
-    if !arguments.fields.is_empty() {
-        Ok(())
-    } else if arguments.network {
-        Err(NoRequest::bad_argument(alloc, "--network", FIELDLESS_NETWORK))
-    } else if !arguments.others.is_empty() {
-        Err(NoRequest::bad_argument(alloc, "--json", FIELDLESS))
-    } else {
-        Ok(())
+    if arguments.network && arguments.fields.is_empty() {
+        return Err(NoRequest::bad_argument(alloc, "--network", FIELDLESS_NETWORK));
     }
+    Ok(())
 }
 
 // The fields of objects.

@@ -3,6 +3,7 @@ use crate::fields::AskedField;
 use crate::json_enrichment::JsonMemory;
 use crate::layered_enrichment::LayeredMemory;
 use crate::layered_json_enrichment::LayeredJsonMemory;
+use crate::missing::have_all;
 use crate::notes::Notes as Records;
 use crate::row_memory::RowMemory;
 use mmdb_arguments::EnrichArguments;
@@ -94,6 +95,8 @@ pub(crate) struct Warnings<'a> {
     said: usize,
     /// The number of the first row that has already what would be added.
     pub(crate) occupied: Option<u64>,
+    /// The number of the first row that is too long.
+    pub(crate) too_long: Option<u64>,
 }
 
 // What separates cells, in words.
@@ -128,6 +131,20 @@ fn had_no_address(counts: Counts) -> bool {
     !had && (counts.unreadable > 0 || counts.malformed > 0)
 }
 
+// Whether a row got no answer that it asked for. An address without a record is an answer.
+fn is_unanswered(counts: Counts) -> bool {
+    let Counts {
+        found: _,
+        absent: _,
+        unreadable,
+        malformed,
+        too_long,
+        rejected,
+        occupied,
+    } = counts;
+    unreadable > 0 || malformed > 0 || too_long > 0 || rejected > 0 || occupied > 0
+}
+
 // Whether a record had a value at a field.
 fn is_met(records: &Records, field: usize) -> bool {
     field < records.met.len() && records.met[field]
@@ -136,7 +153,7 @@ fn is_met(records: &Records, field: usize) -> bool {
 // What is said of a field that no such record has.
 fn missing_text(
     alloc: Global,
-    which: &str,
+    whose: &str,
     path: &str,
     records: &Records,
     databases: &[Database],
@@ -150,7 +167,7 @@ fn missing_text(
             })?;
         }
     }
-    absent_text(alloc, which, path, noted.as_slice())
+    absent_text(alloc, whose, path, noted.as_slice())
 }
 
 impl<'a> Warnings<'a> {
@@ -173,6 +190,7 @@ impl<'a> Warnings<'a> {
             failures: 0,
             said: 0,
             occupied: None,
+            too_long: None,
         }
     }
 
@@ -181,10 +199,11 @@ impl<'a> Warnings<'a> {
         self.is_quiet
     }
 
-    /// `quoted` rows stay in quotes, and this one is the first that has already what would be added.
-    pub(crate) fn add(&mut self, quoted: u64, occupied: Option<u64>) {
+    /// `quoted` rows stay in quotes, and these are the first that have already what would be added, and that are too long.
+    pub(crate) fn add(&mut self, quoted: u64, occupied: Option<u64>, too_long: Option<u64>) {
         self.has_warned |= quoted > 0;
         self.occupied = self.occupied.or(occupied);
+        self.too_long = self.too_long.or(too_long);
     }
 
     // Says that no row had an address, once.
@@ -198,7 +217,7 @@ impl<'a> Warnings<'a> {
     // Says which fields no such record has, each once.
     fn say_missing<O: Write, E: Write>(
         &mut self,
-        which: &str,
+        whose: &str,
         records: &Records,
         databases: &[Database],
         console: &mut Console<'_, O, E>,
@@ -208,7 +227,7 @@ impl<'a> Warnings<'a> {
             if self.said < MOST_SAID && !field.is_said && !is_met(records, at) {
                 field.is_said = true;
                 self.said = self.said.saturating_add(1);
-                let text = missing_text(alloc, which, field.path, records, databases);
+                let text = missing_text(alloc, whose, field.path, records, databases);
                 console.note(line_of(alloc, text));
             }
         }
@@ -235,7 +254,7 @@ impl<'a> Warnings<'a> {
     // Says what is amiss with the rows that passed, of which records are such, and was not said.
     fn say<O: Write, E: Write>(
         &mut self,
-        which: &str,
+        whose: &str,
         counts: Counts,
         records: &Records,
         databases: &[Database],
@@ -249,7 +268,7 @@ impl<'a> Warnings<'a> {
             self.say_no_address(console);
         }
         if counts.found > 0 {
-            self.say_missing(which, records, databases, console);
+            self.say_missing(whose, records, databases, console);
         }
     }
 
@@ -261,17 +280,33 @@ impl<'a> Warnings<'a> {
         databases: &[Database],
         console: &mut Console<'_, O, E>,
     ) {
-        self.say("record so far", counts, records, databases, console);
+        self.say(
+            "none of the lines' records so far",
+            counts,
+            records,
+            databases,
+            console,
+        );
     }
 
-    // Whether a record was found, and none has one of the fields.
-    fn has_missing(&self, counts: Counts, records: &Records) -> bool {
-        for at in 0..self.fields.len() {
-            if counts.found > 0 && !is_met(records, at) {
+    // Whether a record was found, and none of those of the databases has one of the fields, be it of other lines.
+    fn has_missing(
+        &self,
+        alloc: Global,
+        counts: Counts,
+        records: &Records,
+        databases: &[Database],
+    ) -> bool {
+        if counts.found == 0 {
+            return false;
+        }
+        let mut missing = Vec::new(alloc);
+        for (at, field) in self.fields.iter().enumerate() {
+            if !is_met(records, at) && missing.push(field.path).is_err() {
                 return true;
             }
         }
-        false
+        !missing.is_empty() && !have_all(alloc, databases, missing.as_slice())
     }
 
     /// Says what is amiss with all rows of the input, and was not said.
@@ -282,10 +317,15 @@ impl<'a> Warnings<'a> {
         databases: &[Database],
         console: &mut Console<'_, O, E>,
     ) {
-        self.say("record", counts, records, databases, console);
-        self.has_warned |= had_no_address(counts)
-            || counts.occupied > 0
-            || self.has_missing(counts, records);
+        self.say(
+            "none of the lines' records",
+            counts,
+            records,
+            databases,
+            console,
+        );
+        self.has_warned |= records.wider > 0
+            || (self.is_strict && self.has_missing(console.alloc, counts, records, databases));
     }
 
     /// Says how the rows fared, and answers the status: `unasked` of those with an error have an address that no database can
@@ -300,8 +340,8 @@ impl<'a> Warnings<'a> {
         if self.says_counts {
             console.note(text);
         }
-        let has_warned = self.has_warned || counts.rejected > 0;
-        if counts.rejected > unasked || self.is_strict && has_warned {
+        let has_failed = self.has_warned || is_unanswered(counts);
+        if counts.rejected > unasked || self.is_strict && has_failed {
             FAILED
         } else {
             DONE

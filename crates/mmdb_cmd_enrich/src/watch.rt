@@ -1,7 +1,7 @@
 //! What is said of rows while they pass.
 use crate::reload::Lookout;
 use mmdb_console::{Pace, Passed, ProgressLine, line_of};
-use mmdb_filter::{Counts, Progress};
+use mmdb_filter::{Counts, Outcome, Progress};
 use std::alloc::Global;
 use std::cell::Cell;
 use std::io::Write;
@@ -31,6 +31,8 @@ pub(crate) struct Watch<'e, E: Pace, R: Files + Clock> {
     pub(crate) quoted: u64,
     /// The number of the first row that has already what would be added.
     pub(crate) occupied: Option<u64>,
+    /// The number of the first row that is too long.
+    pub(crate) too_long: Option<u64>,
 }
 
 impl<'e, E: Pace, R: Files + Clock> Watch<'e, E, R> {
@@ -57,6 +59,7 @@ impl<'e, E: Pace, R: Files + Clock> Watch<'e, E, R> {
             rt,
             quoted: 0,
             occupied: None,
+            too_long: None,
         }
     }
 
@@ -72,6 +75,10 @@ impl<'e, E: Pace, R: Files + Clock> Watch<'e, E, R> {
 }
 
 impl<'e, E: Pace, R: Files + Clock> Progress for Watch<'e, E, R> {
+    ghost use Rattle.std.specs.Prelude.{◌≡◌, ◌⊎◌, true};
+
+    ghost ends = { λ watch. (watch.stops ≡ true) ⊎ (watch.lookout.now.has_seen ≡ true) };
+
     fn passed(&mut self, counts: Counts) -> bool {
         if self.stops {
             return false;
@@ -88,23 +95,30 @@ impl<'e, E: Pace, R: Files + Clock> Progress for Watch<'e, E, R> {
         !self.lookout.look(self.rt)
     }
 
-    fn stays_quoted(&mut self, rows: u64) {
+    fn stays_quoted(&mut self, rows: u64, is_long: bool) {
         self.quoted = self.quoted.saturating_add(1);
         if self.is_quiet || self.quoted > MOST_SAID {
             return;
         }
         let row = self.number(rows);
+        let place = if is_long {
+            "after 65,536 bytes"
+        } else {
+            "at the end of the input"
+        };
         self.line.note(line_of(
             self.alloc,
             format!(in self.alloc;
-                "mmdb: nothing closes a quote of row {row}, by the end of the input or within 65536 bytes; see --no-quotes"
+                "mmdb: row {row}: a quote is still open {place}; see --no-quotes"
             ),
         ));
     }
 
-    fn is_occupied(&mut self, rows: u64) {
-        if self.occupied.is_none() {
-            self.occupied = Some(self.number(rows));
+    fn is_named(&mut self, rows: u64, outcome: Outcome) {
+        let number = Some(self.number(rows));
+        match outcome {
+            Outcome::TooLong => self.too_long = self.too_long.or(number),
+            _ => self.occupied = self.occupied.or(number),
         }
     }
 }

@@ -89,7 +89,7 @@ impl<'d> AbsentFields<'d> {
 
     // What is said of a field that no record had.
     fn text_of(&self, name: &str) -> Result<String, AllocError> {
-        absent_text(self.alloc, "record", name, self.records.as_slice())
+        absent_text(self.alloc, "no record", name, self.records.as_slice())
     }
 
     // Says how many fields more no record has.

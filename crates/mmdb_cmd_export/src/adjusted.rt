@@ -38,13 +38,15 @@ fn push_kind<O: Write>(
     }
 }
 
-/// Writes the list of the chosen addresses with what is added and without what is taken away.
+/// Writes the list of the chosen addresses with what is added and without what is taken away. Where a network could not be
+/// read, it is not whole.
 pub(crate) fn write_adjusted<'a, O: Write>(
     alloc: Global,
     task: &ExportTask<'_>,
     syntax: Syntax<'a>,
     chosen: &Addresses,
     adjustment: &Adjustment,
+    is_whole: bool,
     out: &mut O,
 ) -> Result<(), ProgramError> {
     let mut list = List::new(alloc, syntax, task.kinds)?;
@@ -53,5 +55,10 @@ pub(crate) fn write_adjusted<'a, O: Write>(
             push_kind(alloc, kind, chosen, adjustment, &mut list, out)?;
         }
     }
-    end_list(&mut list, task.allow_empty || task.may_lack(), out)
+    end_list(
+        &mut list,
+        task.allow_empty || task.may_lack(),
+        is_whole,
+        out,
+    )
 }

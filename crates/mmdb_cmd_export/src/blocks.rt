@@ -1,7 +1,7 @@
 //! Lists of the fewest blocks.
 use crate::clip::Clip;
 use crate::sink::NetworkSink;
-use mmdb_blocks::{BlocksError, Kinds, List, Syntax, Taken};
+use mmdb_blocks::{BlockKind, BlocksError, Kinds, List, Syntax, Taken};
 use mmdb_console::ProgramError;
 use mmdb_layout::{FieldsMet, Found};
 use mmdb_reader::IpNetwork;
@@ -28,10 +28,12 @@ pub(crate) fn of_list(done: Result<(), BlocksError>) -> Result<(), ProgramError>
     }
 }
 
-/// Writes what is left of a list, and what comes after it. Without networks it is an error, unless it may be empty.
+/// Writes what is left of a list, and what comes after it, by which it is loaded only if it is whole. Without networks it is
+/// an error, unless it may be empty.
 pub(crate) fn end_list<O: Write>(
     list: &mut List<'_>,
     may_be_empty: bool,
+    is_whole: bool,
     out: &mut O,
 ) -> Result<(), ProgramError> {
     of_list(list.finish(out))?;
@@ -39,7 +41,11 @@ pub(crate) fn end_list<O: Write>(
         return Err(ProgramError::EmptyList);
     }
     of_list(list.begin(out))?;
-    of_list(list.end(out))
+    if is_whole {
+        of_list(list.end(out))
+    } else {
+        of_list(list.break_off(out))
+    }
 }
 
 impl<'a> Blocks<'a> {
@@ -78,6 +84,10 @@ impl NetworkSink for Blocks<'_> {
     }
 
     fn put<O: Write>(&mut self, found: &Found<'_>, out: &mut O) -> Result<(), ProgramError> {
+        // such a network comes first, and `take` never takes the first one
+        if let Some(block) = self.clip.ipv4_beside(found) {
+            of_list(self.list.push(BlockKind::Ipv4, block, out))?;
+        }
         let (kind, block) = self.clip.part_of(found);
         of_list(self.list.push(kind, block, out))
     }
@@ -90,7 +100,7 @@ impl NetworkSink for Blocks<'_> {
         None
     }
 
-    fn finish<O: Write>(&mut self, out: &mut O) -> Result<(), ProgramError> {
-        end_list(&mut self.list, self.may_be_empty, out)
+    fn finish<O: Write>(&mut self, is_whole: bool, out: &mut O) -> Result<(), ProgramError> {
+        end_list(&mut self.list, self.may_be_empty, is_whole, out)
     }
 }

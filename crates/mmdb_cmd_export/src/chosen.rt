@@ -1,6 +1,10 @@
 //! The chosen networks of a range, with what their records have or as the fewest blocks.
+ghost use Rattle.std.specs.Prelude.{◌≡◌, IfOk};
+ghost use Rattle.mmdb_reader.specs.Found.{section_asked};
+ghost use Rattle.mmdb_cmd_export.specs.Chosen.{section_of, IsFor, IsForAll};
+
 use crate::gathering::AddressGathering;
-use crate::networks::Gathered;
+use crate::networks::{Gathered, MOST_NAMED};
 use crate::sink::{NetworkSink, kind_of};
 use mmdb_blocks::Kinds;
 use mmdb_console::{Console, Pace, Passed, ProgramError, Where};
@@ -18,7 +22,7 @@ const STEP: u64 = 1_024;
 /// An export of the chosen networks.
 #[derive(Drop)]
 pub(crate) struct Export<'a, 'r, W: NetworkSink> {
-    /// Which networks are chosen. None: all.
+    /// Which networks are chosen, of the one database that they are of. None: all.
     choice: Option<Choice<'a>>,
     kinds: Kinds,
     pub(crate) sink: W,
@@ -31,6 +35,7 @@ pub(crate) struct Export<'a, 'r, W: NetworkSink> {
     pub(crate) faults: u64,
     /// How often networks that waited were written.
     times: u64,
+    ghost of_one: { IsForAll choice waiting.items },
 }
 
 impl<'a, 'r, W: NetworkSink> Export<'a, 'r, W> {
@@ -40,7 +45,9 @@ impl<'a, 'r, W: NetworkSink> Export<'a, 'r, W> {
         choice: Option<Choice<'a>>,
         kinds: Kinds,
         sink: W,
-    ) -> Result<Export<'a, 'r, W>, AllocError> {
+    ) -> Result<Export<'a, 'r, W>, AllocError>
+        ensures { IfOk result (λ export. section_of export.choice ≡ section_of choice.entry) }
+    {
         Ok(Export {
             choice,
             kinds,
@@ -60,15 +67,20 @@ impl<'a, 'r, W: NetworkSink> Export<'a, 'r, W> {
         }
     }
 
-    // Reports why a network can't be written, after what was written. Where there is no memory, all that is kept is let go, and
-    // it is tried once more: nothing was reported.
+    // Reports why a network can't be written, after what was written, unless enough were named. Where there is no memory, all
+    // that is kept is let go, and it is tried once more: nothing was reported.
     fn report<O: Write, E: Write>(
         &mut self,
         place: Where,
         error: &MaxMindDbError,
         console: &mut Console<'_, O, E>,
-    ) -> Result<(), ProgramError> {
+    ) -> Result<(), ProgramError>
+        ensures { section_of self.new.choice ≡ section_of self.old.choice }
+    {
         self.faults = self.faults.saturating_add(1);
+        if self.faults > MOST_NAMED {
+            return Ok(());
+        }
         match console.report_behind(place.name(console.alloc), error) {
             Err(problem) if problem.is_memory() && self.sink.let_go() => {
                 drop(problem);
@@ -79,7 +91,10 @@ impl<'a, 'r, W: NetworkSink> Export<'a, 'r, W> {
     }
 
     // Whether the network of an answer is chosen.
-    fn chooses(&mut self, found: &Found<'_>) -> Result<bool, MaxMindDbError> {
+    fn chooses(&mut self, found: &Found<'_>) -> Result<bool, MaxMindDbError>
+        requires { IsFor self.old.choice (section_asked found.now) }
+        ensures { section_of self.new.choice ≡ section_of self.old.choice }
+    {
         match &mut self.choice {
             Some(choice) => choice.chooses(found),
             None => Ok(true),
@@ -93,7 +108,10 @@ impl<'a, 'r, W: NetworkSink> Export<'a, 'r, W> {
         found: &Found<'_>,
         kept: Option<bool>,
         out: &mut O,
-    ) -> Result<(), ProgramError> {
+    ) -> Result<(), ProgramError>
+        requires { IsFor self.old.choice (section_asked found.now) }
+        ensures { section_of self.new.choice ≡ section_of self.old.choice }
+    {
         if kept != Some(true) && !self.chooses(found)? {
             return Ok(());
         }
@@ -105,7 +123,9 @@ impl<'a, 'r, W: NetworkSink> Export<'a, 'r, W> {
         &mut self,
         error: &MaxMindDbError,
         console: &mut Console<'_, O, E>,
-    ) -> Result<(), ProgramError> {
+    ) -> Result<(), ProgramError>
+        ensures { section_of self.new.choice ≡ section_of self.old.choice }
+    {
         self.report(self.next()?, error, console)
     }
 
@@ -117,7 +137,10 @@ impl<'a, 'r, W: NetworkSink> Export<'a, 'r, W> {
         found: &Found<'_>,
         kept: Option<bool>,
         out: &mut O,
-    ) -> Result<(), ProgramError> {
+    ) -> Result<(), ProgramError>
+        requires { IsFor self.old.choice (section_asked found.now) }
+        ensures { section_of self.new.choice ≡ section_of self.old.choice }
+    {
         match self.write_chosen(found, kept, out) {
             Err(error) if error.is_memory() && self.sink.let_go() => {
                 drop(error);
@@ -134,7 +157,10 @@ impl<'a, 'r, W: NetworkSink> Export<'a, 'r, W> {
         found: &Found<'_>,
         kept: Option<bool>,
         console: &mut Console<'_, O, E>,
-    ) -> Result<(), ProgramError> {
+    ) -> Result<(), ProgramError>
+        requires { IsFor self.old.choice (section_asked found.now) }
+        ensures { section_of self.new.choice ≡ section_of self.old.choice }
+    {
         match self.try_chosen(found, kept, console.out) {
             Err(ProgramError::Database(MaxMindDbError::Memory)) => Err(ProgramError::Memory),
             Err(ProgramError::Database(error)) => {
@@ -169,7 +195,9 @@ impl<'a, 'r, W: NetworkSink> Export<'a, 'r, W> {
         index: usize,
         kept: Option<bool>,
         out: &mut O,
-    ) -> Result<bool, ProgramError> {
+    ) -> Result<bool, ProgramError>
+        ensures { section_of self.new.choice ≡ section_of self.old.choice }
+    {
         match self.waiting.get(index) {
             Some(found) if !self.kinds.has(kind_of(found)) => Ok(true),
             Some(found) if kept == Some(true) => self.sink.take(found, out),
@@ -183,7 +211,9 @@ impl<'a, 'r, W: NetworkSink> Export<'a, 'r, W> {
         index: usize,
         kept: Option<bool>,
         console: &mut Console<'_, O, E>,
-    ) -> Result<(), ProgramError> {
+    ) -> Result<(), ProgramError>
+        ensures { section_of self.new.choice ≡ section_of self.old.choice }
+    {
         match self.waiting.get(index).copied() {
             Some(found) => self.write_found(&found, kept, console),
             None => Ok(()),
@@ -195,7 +225,9 @@ impl<'a, 'r, W: NetworkSink> Export<'a, 'r, W> {
     fn write_waiting<O: Write, E: Pace>(
         &mut self,
         console: &mut Console<'_, O, E>,
-    ) -> Result<(), ProgramError> {
+    ) -> Result<(), ProgramError>
+        ensures { section_of self.new.choice ≡ section_of self.old.choice }
+    {
         for (index, kept) in self.kept_of_waiting().iter().enumerate() {
             if *kept == Some(false) {
                 continue;
@@ -213,7 +245,9 @@ impl<'a, 'r, W: NetworkSink> Export<'a, 'r, W> {
     }
 
     // Shows on a terminal how many networks passed.
-    fn show_passed<O: Write, E: Pace>(&mut self, console: &mut Console<'_, O, E>) {
+    fn show_passed<O: Write, E: Pace>(&mut self, console: &mut Console<'_, O, E>)
+        ensures { section_of self.new.choice ≡ section_of self.old.choice }
+    {
         self.times = self.times.saturating_add(1);
         if self.times % STEP == 0 {
             let passed = self.times.saturating_mul(MOST_WAITING as u64);
@@ -221,13 +255,17 @@ impl<'a, 'r, W: NetworkSink> Export<'a, 'r, W> {
         }
     }
 
-    /// Writes what was found in a network, if it is chosen, or reports why it can't be. Some networks wait for others.
+    /// Writes what was found in a network of the database, if it is chosen, or reports why it can't be. Some networks wait for
+    /// others.
     #[inline(always)]
     pub(crate) fn write<O: Write, E: Pace>(
         &mut self,
         found: Found<'r>,
         console: &mut Console<'_, O, E>,
-    ) -> Result<(), ProgramError> {
+    ) -> Result<(), ProgramError>
+        requires { IsFor self.old.choice (section_asked found) }
+        ensures { section_of self.new.choice ≡ section_of self.old.choice }
+    {
         self.waiting.push(found)?;
         if self.waiting.len() < MOST_WAITING {
             return Ok(());
@@ -241,7 +279,9 @@ impl<'a, 'r, W: NetworkSink> Export<'a, 'r, W> {
         &mut self,
         error: &MaxMindDbError,
         console: &mut Console<'_, O, E>,
-    ) -> Result<(), ProgramError> {
+    ) -> Result<(), ProgramError>
+        ensures { section_of self.new.choice ≡ section_of self.old.choice }
+    {
         self.write_waiting(console)?;
         self.report_next(error, console)
     }
@@ -252,7 +292,7 @@ impl<'a, 'r, W: NetworkSink> Export<'a, 'r, W> {
         console: &mut Console<'_, O, E>,
     ) -> Result<(), ProgramError> {
         self.write_waiting(console)?;
-        self.sink.finish(console.out)
+        self.sink.finish(self.faults == 0, console.out)
     }
 }
 

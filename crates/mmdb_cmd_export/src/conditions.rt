@@ -1,8 +1,8 @@
 //! Conditions as a person writes them.
-use crate::inputs::{Named, ValueFile, named_by, text_of_file, values_in};
+use crate::inputs::{Named, ValueFile, named_by, values_of_file};
 use mmdb_arguments::{ConditionTexts, NoRequest};
 use mmdb_console::{path_of, wanted_path};
-use mmdb_layout::{Condition, Requirement, is_comparable, split_condition};
+use mmdb_layout::{Condition, Requirement, Texts, is_comparable, split_condition};
 use mmdb_reader::PathElement;
 use std::alloc::{AllocError, Global};
 
@@ -23,6 +23,21 @@ fn place_of(
     None
 }
 
+// Adds values to the texts of a condition.
+fn push_texts<'a>(texts: &mut Texts<'a>, values: &[&'a str]) -> Result<(), AllocError> {
+    for value in values {
+        texts.push(*value)?;
+    }
+    Ok(())
+}
+
+/// The texts of a condition with some values.
+pub(crate) fn texts_of<'a>(alloc: Global, values: &[&'a str]) -> Result<Texts<'a>, AllocError> {
+    let mut texts = Texts::new(alloc);
+    push_texts(&mut texts, values)?;
+    Ok(texts)
+}
+
 // Adds values to a condition.
 fn add_values<'a>(
     conditions: &mut [Condition<'a>],
@@ -30,7 +45,7 @@ fn add_values<'a>(
     values: &[&'a str],
 ) -> Result<(), AllocError> {
     match conditions.get_mut(place) {
-        Some(condition) => condition.texts.extend_from_slice(values),
+        Some(condition) => push_texts(&mut condition.texts, values),
         None => Ok(()),
     }
 }
@@ -44,7 +59,7 @@ fn condition_of<'a>(
 ) -> Result<Condition<'a>, AllocError> {
     Ok(Condition {
         path,
-        texts: Vec::from_slice(alloc, values)?,
+        texts: texts_of(alloc, values)?,
         wanted,
     })
 }
@@ -74,7 +89,7 @@ fn values_of<'a>(
     files: &'a [ValueFile<'a>],
 ) -> Result<Vec<&'a str>, AllocError> {
     match named_by(value) {
-        Named::File(_) => values_in(alloc, text_of_file(files, text).unwrap_or("")),
+        Named::File(_) => values_of_file(alloc, files, text),
         Named::Value(value) => {
             let mut values = Vec::new(alloc);
             values.push(value)?;

@@ -8,9 +8,9 @@ use crate::networks::{
 };
 use crate::task::{ExportTask, Shape, export_task};
 use mmdb_arguments::ListDiffArguments;
-use mmdb_blocks::{Action, Block, BlockKind, List, RangesError, Syntax, blocks_without};
+use mmdb_blocks::{Block, BlockKind, List, RangesError, blocks_without};
 use mmdb_console::{Console, DIFFERENT, DONE, FAILED, Pace, ProgramError, note_range, range_of};
-use mmdb_layout::{Database, open_database};
+use mmdb_layout::{Database, can_be_walked, open_database, range_asked};
 use mmdb_reader::IpNetwork;
 use std::alloc::Global;
 use std::env::Env;
@@ -56,13 +56,6 @@ impl BlockChanges {
     fn is_none(&self) -> bool {
         self.removed.is_empty() && self.added.is_empty()
     }
-
-    fn blocks(&self, action: Action) -> &[Block] {
-        match action {
-            Action::Remove => self.removed.as_slice(),
-            Action::Fill | Action::Add => self.added.as_slice(),
-        }
-    }
 }
 
 // What changes between the lists of two databases, of a kind.
@@ -96,22 +89,6 @@ fn list_changes(
     Ok(ListChanges { ipv4, ipv6 })
 }
 
-// Writes what is done with the blocks that are taken out, or put in.
-fn write_action<O: Write>(
-    alloc: Global,
-    task: &ExportTask<'_>,
-    syntax: Syntax<'_>,
-    changes: &ListChanges,
-    action: Action,
-    out: &mut O,
-) -> Result<(), ProgramError> {
-    let mut list = List::of_action(alloc, syntax, action, task.kinds)?;
-    for kind in KINDS {
-        push_blocks(kind, changes.of(kind).blocks(action), &mut list, out)?;
-    }
-    of_list(list.finish(out))
-}
-
 // Writes what changes, first what is taken out.
 fn write_changes<O: Write>(
     alloc: Global,
@@ -125,8 +102,16 @@ fn write_changes<O: Write>(
     if changes.is_empty() && !task.allow_empty && !task.may_lack() {
         return Err(ProgramError::EmptyList);
     }
-    write_action(alloc, task, *syntax, changes, Action::Remove, out)?;
-    write_action(alloc, task, *syntax, changes, Action::Add, out)
+    let mut list = List::of_changes(alloc, *syntax, task.kinds)?;
+    for kind in KINDS {
+        push_blocks(kind, changes.of(kind).removed.as_slice(), &mut list, out)?;
+    }
+    of_list(list.go_on_to_add(out))?;
+    for kind in KINDS {
+        push_blocks(kind, changes.of(kind).added.as_slice(), &mut list, out)?;
+    }
+    of_list(list.finish(out))?;
+    of_list(list.end(out))
 }
 
 // The chosen addresses of the old database.
@@ -135,7 +120,7 @@ fn gather_old<O: Write, E: Pace>(
     task: &ExportTask<'_>,
     console: &mut Console<'_, O, E>,
 ) -> Result<Gathered, ProgramError> {
-    let choice = choice_of(console.alloc, task.conditions.as_slice())?;
+    let choice = choice_of(console.alloc, database, task.conditions.as_slice())?;
     gather(database, task, choice, console)
 }
 
@@ -145,7 +130,7 @@ fn gather_new<O: Write, E: Pace>(
     task: &ExportTask<'_>,
     console: &mut Console<'_, O, E>,
 ) -> Result<Option<Gathered>, ProgramError> {
-    let mut choice = choice_of(console.alloc, task.conditions.as_slice())?;
+    let mut choice = choice_of(console.alloc, database, task.conditions.as_slice())?;
     if !may_be_written(database, task, &mut choice, console)? {
         return Ok(None);
     }
@@ -190,7 +175,7 @@ fn compare_files<R: Files + Env, I: BufRead, O: Write, E: Pace>(
     input: &mut I,
     console: &mut Console<'_, O, E>,
 ) -> Result<u8, ProgramError> {
-    let task = export_task(console.alloc, &arguments.newer, range, files)?;
+    let mut task = export_task(console.alloc, &arguments.newer, range, files)?;
     note_range(task.range, console);
     let Some(adjustment) = read_adjustment(rt, &arguments.newer.list, input, console)? else {
         return Ok(FAILED);
@@ -201,6 +186,12 @@ fn compare_files<R: Files + Env, I: BufRead, O: Write, E: Pace>(
     let Some(newer) = open_database(rt, arguments.newer.file, console) else {
         return Ok(FAILED);
     };
+    task.range = range_asked(&[&old, &newer], task.range, console)?;
+    if !can_be_walked(&old, arguments.old, task.range, console)?
+        || !can_be_walked(&newer, arguments.newer.file, task.range, console)?
+    {
+        return Ok(FAILED);
+    }
     compare(
         &old,
         &newer,

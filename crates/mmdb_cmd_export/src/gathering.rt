@@ -1,6 +1,8 @@
 //! The addresses of chosen networks, gathered.
-ghost use Rattle.std.specs.Prelude.{IfOk};
-ghost use Rattle.mmdb_blocks.specs.Blocks.{IsJoined};
+ghost use Rattle.std.specs.Prelude.{◌≡◌, ◌↔◌, ℕ, IfOk};
+ghost use Rattle.mmdb_blocks.specs.Blocks.{IsIn, IsJoined};
+ghost use Rattle.mmdb_blocks.specs.Ranges.{IsListed};
+ghost use Rattle.mmdb_cmd_export.specs.Gathered.{ranges_of};
 
 use crate::clip::Clip;
 use crate::sink::NetworkSink;
@@ -34,7 +36,9 @@ impl Addresses {
         }
     }
 
-    fn of(&self, kind: BlockKind) -> &Ranges {
+    fn of(&self, kind: BlockKind) -> &Ranges
+        ensures { result.now ≡ ranges_of kind self.now }
+    {
         match kind {
             BlockKind::Ipv4 => &self.ipv4,
             BlockKind::Ipv6 => &self.ipv6,
@@ -85,6 +89,9 @@ impl Adjustment {
         chosen: &Addresses,
         kind: BlockKind,
     ) -> Result<Vec<Block>, RangesError>
+        ensures exact { IfOk result (λ blocks. (address : ℕ) → IsIn address blocks.items
+            ↔ IsListed address (ranges_of kind chosen.now) (ranges_of kind self.now.also)
+            (ranges_of kind self.now.except)) }
         ensures fewest { IfOk result (λ blocks. IsJoined blocks.items blocks.items) }
     {
         listed_blocks(
@@ -111,18 +118,25 @@ impl AddressGathering {
             clip: Clip::to(range),
         }
     }
+
+    // Adds the addresses of a network.
+    fn add(&mut self, found: &Found<'_>) -> Result<(), ProgramError> {
+        if let Some(block) = self.clip.ipv4_beside(found) {
+            self.chosen.add_block(BlockKind::Ipv4, block)?;
+        }
+        let (kind, block) = self.clip.part_of(found);
+        self.chosen.add_block(kind, block)
+    }
 }
 
 impl NetworkSink for AddressGathering {
     fn take<O: Write>(&mut self, found: &Found<'_>, _out: &mut O) -> Result<bool, ProgramError> {
-        let (kind, block) = self.clip.part_of(found);
-        self.chosen.add_block(kind, block)?;
+        self.add(found)?;
         Ok(true)
     }
 
     fn put<O: Write>(&mut self, found: &Found<'_>, _out: &mut O) -> Result<(), ProgramError> {
-        let (kind, block) = self.clip.part_of(found);
-        self.chosen.add_block(kind, block)
+        self.add(found)
     }
 
     fn let_go(&mut self) -> bool {
@@ -133,7 +147,7 @@ impl NetworkSink for AddressGathering {
         None
     }
 
-    fn finish<O: Write>(&mut self, _out: &mut O) -> Result<(), ProgramError> {
+    fn finish<O: Write>(&mut self, _is_whole: bool, _out: &mut O) -> Result<(), ProgramError> {
         Ok(())
     }
 }

@@ -1,7 +1,9 @@
 //! What is read beside a database: files of blocks and of values.
 use crate::gathering::{Addresses, Adjustment};
 use crate::spelling::{Spelt, block_in};
+use crate::value_lines::values_of_lines;
 use mmdb_arguments::{ExportArguments, ListArguments, NoRequest};
+use mmdb_blocks::BlockKind;
 use mmdb_console::{Console, ProgramError, line_of};
 use mmdb_layout::{Requirement, split_condition};
 use std::alloc::{AllocError, Global};
@@ -56,29 +58,30 @@ pub(crate) struct ValueFile<'a> {
     pub(crate) condition: &'a str,
     /// What is wanted of the values.
     pub(crate) wanted: Requirement,
-    pub(crate) text: String,
+    pub(crate) values: Vec<String>,
 }
 
-/// The lines of a text that are values.
-pub(crate) fn values_in<'t>(alloc: Global, text: &'t str) -> Result<Vec<&'t str>, AllocError> {
-    let mut values = Vec::new(alloc);
-    for line in text.split('\n') {
-        let value = line.strip_suffix('\r').unwrap_or(line);
-        if !value.is_empty() {
-            values.push(value)?;
+impl ValueFile<'_> {
+    /// The values.
+    pub(crate) fn texts(&self, alloc: Global) -> Result<Vec<&str>, AllocError> {
+        let mut texts = Vec::with_capacity(alloc, self.values.len())?;
+        for value in &self.values {
+            texts.push(value.as_str())?;
         }
+        Ok(texts)
     }
-    Ok(values)
 }
 
-/// The values of a condition's file, among those that were read.
-pub(crate) fn text_of_file<'f>(files: &'f [ValueFile<'_>], condition: &str) -> Option<&'f str> {
-    for file in files {
-        if file.condition == condition {
-            return Some(file.text.as_str());
-        }
+/// The values of a condition's file, among those that were read; none where it was not.
+pub(crate) fn values_of_file<'f>(
+    alloc: Global,
+    files: &'f [ValueFile<'_>],
+    condition: &str,
+) -> Result<Vec<&'f str>, AllocError> {
+    match files.iter().find(|file| file.condition == condition) {
+        Some(file) => file.texts(alloc),
+        None => Ok(Vec::new(alloc)),
     }
-    None
 }
 
 // The file that a condition names, if it names one.
@@ -194,9 +197,25 @@ fn note_spelling<O: Write, E: Write>(
 
 // The text of a line without its comment and the blanks around it.
 fn without_comment(line: &str) -> &str {
-    match line.split_once('#') {
-        Some((text, _)) => text.trim(),
-        None => line.trim(),
+    let end = line.find(['#', ';']).unwrap_or(line.len());
+    line.get(..end).unwrap_or("").trim()
+}
+
+/// What becomes of the blocks of a file.
+#[derive(Clone, Copy, PartialEq, Eq)]
+enum BlockUse {
+    /// A list has them too.
+    Added,
+    /// A list has none of them.
+    TakenAway,
+}
+
+// Adds the addresses that a line spells. Where IPv4 addresses are taken away that are written as ones of IPv6, those are too.
+fn add_spelt(spelt: &Spelt, used: BlockUse, addresses: &mut Addresses) -> Result<(), AllocError> {
+    addresses.add(spelt.kind, spelt.range)?;
+    match spelt.mapped {
+        Some(mapped) if used == BlockUse::TakenAway => addresses.add(BlockKind::Ipv6, mapped),
+        _ => Ok(()),
     }
 }
 
@@ -205,6 +224,7 @@ fn add_line<O: Write, E: Write>(
     file: &str,
     line: usize,
     text: &str,
+    used: BlockUse,
     addresses: &mut Addresses,
     console: &mut Console<'_, O, E>,
 ) -> Result<bool, ProgramError> {
@@ -214,7 +234,7 @@ fn add_line<O: Write, E: Write>(
     match block_in(text) {
         Ok(spelt) => {
             note_spelling(file, line, text, &spelt, console);
-            addresses.add(spelt.kind, spelt.range)?;
+            add_spelt(&spelt, used, addresses)?;
             Ok(true)
         }
         Err(wrong) => {
@@ -230,6 +250,7 @@ fn add_line<O: Write, E: Write>(
 fn add_lines<O: Write, E: Write>(
     file: &str,
     bytes: &[u8],
+    used: BlockUse,
     addresses: &mut Addresses,
     console: &mut Console<'_, O, E>,
 ) -> Result<bool, ProgramError> {
@@ -240,7 +261,7 @@ fn add_lines<O: Write, E: Write>(
             report_line(file, line, "not valid UTF-8", console);
             return Ok(false);
         };
-        if !add_line(file, line, without_comment(text), addresses, console)? {
+        if !add_line(file, line, without_comment(text), used, addresses, console)? {
             return Ok(false);
         }
     }
@@ -251,6 +272,7 @@ fn add_lines<O: Write, E: Write>(
 fn add_files<R: Files, I: BufRead, O: Write, E: Write>(
     rt: &R,
     files: &[&str],
+    used: BlockUse,
     addresses: &mut Addresses,
     input: &mut I,
     console: &mut Console<'_, O, E>,
@@ -259,7 +281,7 @@ fn add_files<R: Files, I: BufRead, O: Write, E: Write>(
         let Some(bytes) = read_input(rt, *file, input, console)? else {
             return Ok(false);
         };
-        let is_read = add_lines(*file, bytes.as_slice(), addresses, console)?;
+        let is_read = add_lines(*file, bytes.as_slice(), used, addresses, console)?;
         drop(bytes);
         if !is_read {
             return Ok(false);
@@ -278,8 +300,8 @@ pub(crate) fn read_adjustment<R: Files, I: BufRead, O: Write, E: Write>(
     let mut also = Addresses::new(console.alloc);
     let mut except = Addresses::new(console.alloc);
     let (added, taken) = (arguments.also.as_slice(), arguments.except.as_slice());
-    let is_read = add_files(rt, added, &mut also, input, console)?
-        && add_files(rt, taken, &mut except, input, console)?;
+    let is_read = add_files(rt, added, BlockUse::Added, &mut also, input, console)?
+        && add_files(rt, taken, BlockUse::TakenAway, &mut except, input, console)?;
     if !is_read {
         return Ok(None);
     }
@@ -298,19 +320,39 @@ fn line_with_fault(bytes: &[u8]) -> usize {
     line
 }
 
-// The text of a file; none where it can't be read, which is reported.
-fn read_text<R: Files, I: BufRead, O: Write, E: Write>(
+// The values of a text, in which a line is one; none where a line is wrong, which is reported.
+fn values_in<O: Write, E: Write>(
+    file: &str,
+    text: &str,
+    console: &mut Console<'_, O, E>,
+) -> Result<Option<Vec<String>>, AllocError> {
+    match values_of_lines(console.alloc, text)? {
+        Ok(values) => Ok(Some(values)),
+        Err(line) => {
+            report_line(
+                file,
+                line,
+                "not a text in double quotes as JSON writes it",
+                console,
+            );
+            Ok(None)
+        }
+    }
+}
+
+// The values of a file; none where it can't be read, which is reported.
+fn values_of_input<R: Files, I: BufRead, O: Write, E: Write>(
     rt: &R,
     file: &str,
     input: &mut I,
     console: &mut Console<'_, O, E>,
-) -> Result<Option<String>, ProgramError> {
+) -> Result<Option<Vec<String>>, ProgramError> {
     let Some(bytes) = read_input(rt, file, input, console)? else {
         return Ok(None);
     };
     let bytes = without_mark(bytes.as_slice());
     match str::from_utf8(bytes) {
-        Ok(text) => Ok(Some(String::from_str(console.alloc, text)?)),
+        Ok(text) => Ok(values_in(file, text, console)?),
         Err(_) => {
             report_line(file, line_with_fault(bytes), "not valid UTF-8", console);
             Ok(None)
@@ -331,13 +373,13 @@ fn read_values<'a, R: Files, I: BufRead, O: Write, E: Write>(
         let Some(file) = file_in(*condition) else {
             continue;
         };
-        let Some(text) = read_text(rt, file, input, console)? else {
+        let Some(values) = values_of_input(rt, file, input, console)? else {
             return Ok(false);
         };
         files.push(ValueFile {
             condition: *condition,
             wanted,
-            text,
+            values,
         })?;
     }
     Ok(true)

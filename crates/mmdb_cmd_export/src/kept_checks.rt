@@ -66,7 +66,7 @@ fn said_of(
     condition: &Condition<'_>,
     found: &Found<'_>,
 ) -> Result<Option<bool>, MaxMindDbError> {
-    let value: Option<Value<'_>> = found.read_along(alloc, condition.path.as_slice())?;
+    let value: Option<Value<'_>> = found.outline_along(alloc, condition.path.as_slice())?;
     if value.is_none() {
         return Ok(None);
     }

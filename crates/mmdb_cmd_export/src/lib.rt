@@ -2,6 +2,7 @@
 #![tactic(auto)]
 
 mod absent_fields;
+mod absent_paths;
 mod adjusted;
 mod asked;
 mod blocks;
@@ -14,6 +15,8 @@ mod inputs;
 mod kept_checks;
 mod kept_texts;
 mod listed_values;
+mod looked;
+mod meant;
 mod missing;
 mod names;
 mod networks;
@@ -25,6 +28,7 @@ mod stretch_choice;
 mod stretch_rows;
 mod stretches;
 mod task;
+mod value_lines;
 
 pub use delta::list_diff;
 pub use networks::export;

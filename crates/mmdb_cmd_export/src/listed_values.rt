@@ -1,9 +1,10 @@
 //! Values of files that no network has.
-use crate::inputs::{ValueFile, shown_start, values_in};
+use crate::conditions::texts_of;
+use crate::inputs::{ValueFile, shown_start};
 use mmdb_arguments::NoRequest;
 use mmdb_console::{Console, ProgramError, line_of, wanted_path};
 use mmdb_json::compact;
-use mmdb_layout::{Condition, ReadAlong, Requirement, split_condition};
+use mmdb_layout::{Condition, ReadAlong, Requirement, Texts, is_number_of, split_condition};
 use mmdb_reader::{MaxMindDbError, PathElement};
 use mmdb_value::Value;
 use std::alloc::{AllocError, Global};
@@ -17,15 +18,39 @@ const MOST_NAMED: usize = 10;
 #[derive(Drop)]
 pub(crate) struct FileSearch<'a> {
     /// The condition as it is written.
-    condition: &'a str,
+    pub(crate) condition: &'a str,
     /// The condition that there is a value at its path.
     pub(crate) present: Condition<'a>,
     pub(crate) wanted: Requirement,
-    values: Vec<&'a str>,
+    values: Texts<'a>,
     /// The values that no network has so far.
     left: HashSet<String>,
     /// How many there were.
     count: usize,
+}
+
+// Whether a value is a double or a float.
+fn is_floating(value: &Value<'_>) -> bool {
+    match value {
+        Value::Double(_) | Value::Float(_) => true,
+        _ => false,
+    }
+}
+
+// Takes out those of some numbers that a value is.
+fn take_numbers(
+    alloc: Global,
+    value: &Value<'_>,
+    json: &str,
+    numbers: &[&str],
+    left: &mut HashSet<String>,
+) -> Result<(), AllocError> {
+    for number in numbers {
+        if is_number_of(alloc, value, json, *number)? {
+            left.remove(*number);
+        }
+    }
+    Ok(())
 }
 
 // The search for the values of a file.
@@ -34,7 +59,7 @@ fn search_of<'a>(alloc: Global, file: &'a ValueFile<'a>) -> Result<FileSearch<'a
         Some((path, _)) => wanted_path(alloc, path)?,
         None => Vec::new(alloc),
     };
-    let values = values_in(alloc, file.text.as_str())?;
+    let values = file.texts(alloc)?;
     let mut left = HashSet::new(alloc);
     for value in &values {
         left.insert(String::from_str(alloc, *value)?)?;
@@ -44,11 +69,11 @@ fn search_of<'a>(alloc: Global, file: &'a ValueFile<'a>) -> Result<FileSearch<'a
         condition: file.condition,
         present: Condition {
             path,
-            texts: Vec::new(alloc),
+            texts: Texts::new(alloc),
             wanted: Requirement::Present,
         },
         wanted: file.wanted,
-        values,
+        values: texts_of(alloc, values.as_slice())?,
         left,
         count,
     })
@@ -93,6 +118,21 @@ impl FileSearch<'_> {
         }
     }
 
+    // Takes out the JSON of the value that a record has, and the numbers that the value is.
+    fn take_json(
+        &mut self,
+        alloc: Global,
+        value: &Value<'_>,
+        json: &str,
+    ) -> Result<(), AllocError> {
+        self.left.remove(json);
+        if is_floating(value) {
+            return take_numbers(alloc, value, json, self.values.all(), &mut self.left);
+        }
+        // a whole number is written in another way than its own by no digits alone
+        take_numbers(alloc, value, json, self.values.others(), &mut self.left)
+    }
+
     // Takes out the value that a record has.
     fn take_value(&mut self, alloc: Global, value: &Value<'_>) -> Result<(), AllocError> {
         match value {
@@ -103,7 +143,7 @@ impl FileSearch<'_> {
             value => {
                 let json = compact(alloc, value)?;
                 if let Ok(text) = str::from_utf8(json.as_slice()) {
-                    self.left.remove(text);
+                    self.take_json(alloc, value, text)?;
                 }
             }
         }
@@ -116,7 +156,7 @@ impl FileSearch<'_> {
         alloc: Global,
         found: &R,
     ) -> Result<(), ProgramError> {
-        let value = found.read_along(alloc, self.present.path.as_slice());
+        let value = found.outline_along(alloc, self.present.path.as_slice());
         match &value {
             Ok(Some(value)) => Ok(self.take_value(alloc, value)?),
             Err(MaxMindDbError::Memory) => Err(ProgramError::Memory),
@@ -128,7 +168,7 @@ impl FileSearch<'_> {
     fn names(&self, alloc: Global) -> Result<String, AllocError> {
         let mut names = String::new(alloc);
         let mut count = 0usize;
-        for value in &self.values {
+        for value in self.values.all() {
             if count >= MOST_NAMED {
                 names.push_str(", ..")?;
                 break;

@@ -1,19 +1,24 @@
 //! Values of conditions that no network has: a list by a value that is misspelt would have nothing, or too much.
+ghost use Rattle.std.specs.Prelude.{◌≡◌};
+ghost use Rattle.mmdb_reader.specs.File.{data_section};
+ghost use Rattle.mmdb_cmd_export.specs.Chosen.{section_walked};
+
+use crate::absent_paths::{note_absent_path, note_path_absent_along};
 use crate::conditions::{NamedValue, Role};
 use crate::kept_checks::KeptChecks;
 use crate::listed_values::{FileSearch, searches_of};
-use crate::several::{Answers, Offsets, Several, kind_of_stretch};
+use crate::looked::looked_at;
+use crate::meant::Seekers;
+use crate::several::{Answers, Offsets, Several, is_listed};
 use crate::sink::kind_of;
 use crate::task::ExportTask;
 use mmdb_blocks::Kinds;
 use mmdb_compare::{Together, TogetherPart, TogetherStretch};
-use mmdb_console::{Console, ProgramError, Similar, line_of};
-use mmdb_json::compact;
+use mmdb_console::{Console, ProgramError, line_of};
 use mmdb_layout::{
     Choice, Database, Networks, ReadAlong, Requirement, networks_in, split_condition,
 };
-use mmdb_reader::{MaxMindDbError, PathElement};
-use mmdb_value::Value;
+use mmdb_reader::{IpNetwork, MaxMindDbError, PathElement};
 use std::alloc::{AllocError, Global};
 use std::collections::HashSet;
 use std::io::Write;
@@ -154,7 +159,10 @@ impl<'t, 'a> Search<'t, 'a> {
         networks: Networks<'_>,
         kinds: Kinds,
         choice: &mut Choice<'_>,
-    ) -> Result<(), ProgramError> {
+    ) -> Result<(), ProgramError>
+        requires { section_walked networks ≡ choice.old.section.now }
+        ensures { choice.new.section ≡ choice.old.section }
+    {
         for item in networks {
             let Ok(found) = item else {
                 continue;
@@ -236,7 +244,7 @@ impl<'t, 'a> Search<'t, 'a> {
         let mut offsets = several.no_offsets(self.alloc)?;
         for _ in 0..u64::MAX {
             match together.next_part() {
-                Some(TogetherPart::Stretch(stretch)) if kinds.has(kind_of_stretch(stretch)) => {
+                Some(TogetherPart::Stretch(stretch)) if is_listed(kinds, stretch) => {
                     several.put_offsets(together, &mut offsets)?;
                     self.meet_stretch(together, stretch, &offsets, &mut checks)?;
                     if self.is_done() {
@@ -293,34 +301,13 @@ impl<'t, 'a> Search<'t, 'a> {
     }
 }
 
-// Offers the value that a record has at a path: a text as it is, and any other as JSON. One that can't be read is passed.
-fn offer_value<R: ReadAlong>(
-    alloc: Global,
-    found: &R,
-    named: &NamedValue<'_>,
-    similar: &mut Similar<'_>,
-) -> Result<(), AllocError> {
-    let value = match found.read_along(alloc, named.condition.path.as_slice()) {
-        Ok(value) => value,
-        Err(_) => None,
-    };
-    match &value {
-        Some(Value::String(text)) => similar.offer(text),
-        Some(Value::Map(_) | Value::Array(_)) | None => Ok(()),
-        Some(value) => {
-            let json = compact(alloc, value)?;
-            similar.offer(str::from_utf8(json.as_slice()).unwrap_or(""))
-        }
-    }
-}
-
-// Offers the values that the records of networks have at a path.
-fn offer_all(
-    alloc: Global,
+// Offers the values that the records of networks have.
+fn offer_all<'d>(
+    database: &'d Database,
     networks: Networks<'_>,
-    named: &NamedValue<'_>,
-    similar: &mut Similar<'_>,
-) -> Result<(), ProgramError> {
+    seekers: &mut Seekers<'_, '_, 'd>,
+    alloc: Global,
+) -> Result<(), AllocError> {
     let mut offsets = HashSet::new(alloc);
     for item in networks {
         let Ok(found) = item else {
@@ -329,27 +316,45 @@ fn offer_all(
         if offsets.len() >= MOST_RECORDS {
             break;
         }
-        if offsets.insert(found.offset().unwrap_or(0))? {
-            offer_value(alloc, &found, named, similar)?;
+        let offset = found.offset().unwrap_or(0);
+        if offsets.insert(offset)? {
+            seekers.keep(database.data_section(), offset)?;
+            seekers.offer(&found)?;
         }
     }
     Ok(())
 }
 
-// Offers the values that databases have at a path side by side.
-fn offer_stretches<'r>(
+// Offers the values that databases have in a stretch.
+fn offer_stretch<'d>(
+    several: &Several<'d>,
+    together: &Together<'d, Vec<u8>>,
+    stretch: TogetherStretch,
+    seekers: &mut Seekers<'_, '_, 'd>,
     alloc: Global,
-    together: &mut Together<'r, Vec<u8>>,
-    named: &NamedValue<'_>,
-    similar: &mut Similar<'_>,
+) -> Result<(), AllocError> {
+    for place in 0..several.asked_count() {
+        if let Some(offset) = together.offset(place) {
+            seekers.keep(several.section_at(place), offset)?;
+        }
+    }
+    let answers = together.answers(alloc, stretch)?;
+    seekers.offer(&answers)
+}
+
+// Offers the values that databases have side by side.
+fn offer_stretches<'d>(
+    several: &Several<'d>,
+    together: &mut Together<'d, Vec<u8>>,
+    seekers: &mut Seekers<'_, '_, 'd>,
+    alloc: Global,
 ) -> Result<(), AllocError> {
     let mut count = 0usize;
     for _ in 0..u64::MAX {
         match together.next_part() {
             Some(TogetherPart::Stretch(stretch)) if count < MOST_RECORDS => {
                 count = count.saturating_add(1);
-                let answers = together.answers(alloc, stretch)?;
-                offer_value(alloc, &answers, named, similar)?;
+                offer_stretch(several, together, stretch, seekers, alloc)?;
             }
             Some(TogetherPart::Unread(_)) => {}
             _ => break,
@@ -358,61 +363,26 @@ fn offer_stretches<'r>(
     Ok(())
 }
 
-// Offers the values that are at a path where they are looked for.
-fn offer_sought(
-    sought: Sought<'_>,
-    task: &ExportTask<'_>,
-    named: &NamedValue<'_>,
-    similar: &mut Similar<'_>,
+// Offers the values that are there where they are looked for, in one pass.
+fn offer_sought<'d>(
+    sought: Sought<'d>,
+    range: Option<IpNetwork>,
+    seekers: &mut Seekers<'_, '_, 'd>,
     alloc: Global,
 ) -> Result<(), ProgramError> {
     match sought {
         Sought::One(database) => {
-            let networks = networks_in(alloc, database, task.range)?;
-            offer_all(alloc, networks, named, similar)
+            let networks = networks_in(alloc, database, range)?;
+            Ok(offer_all(database, networks, seekers, alloc)?)
         }
         Sought::Several(several) => match several.begin(alloc) {
             Ok(mut together) => {
-                let offered = offer_stretches(alloc, &mut together, named, similar);
+                let offered = offer_stretches(several, &mut together, seekers, alloc);
                 drop(together);
                 Ok(offered?)
             }
             Err((_, error)) => Err(ProgramError::from(error)),
         },
-    }
-}
-
-// The value that is most like one that no network has.
-fn similar_value(
-    sought: Sought<'_>,
-    task: &ExportTask<'_>,
-    named: &NamedValue<'_>,
-    alloc: Global,
-) -> Result<Option<String>, ProgramError> {
-    let mut similar = Similar::new(alloc, named.value)?;
-    offer_sought(sought, task, named, &mut similar, alloc)?;
-    match similar.best() {
-        Some(best) => Ok(Some(String::from_str(alloc, best)?)),
-        None => Ok(None),
-    }
-}
-
-// What may be meant in place of what no network has: another value, or one where a path is asked for.
-fn meant_by(
-    sought: Sought<'_>,
-    task: &ExportTask<'_>,
-    named: &NamedValue<'_>,
-    alloc: Global,
-) -> Result<Option<String>, ProgramError> {
-    match named.condition.wanted {
-        Requirement::OneOf | Requirement::NoneOf | Requirement::Part => {
-            similar_value(sought, task, named, alloc)
-        }
-        Requirement::Present => match split_condition(named.text) {
-            Some((path, value)) => Ok(Some(format!(in alloc; "--where {path}={value}")?)),
-            None => Ok(None),
-        },
-        Requirement::Above | Requirement::Below => Ok(None),
     }
 }
 
@@ -450,34 +420,20 @@ fn missing_line(
     }
 }
 
-// Reports a value that no network has, with what may be meant, where that is looked for.
-fn report_missing<O: Write, E: Write>(
-    sought: Sought<'_>,
-    task: &ExportTask<'_>,
-    named: &NamedValue<'_>,
-    is_sought: bool,
-    hint: &str,
-    console: &mut Console<'_, O, E>,
-) -> Result<(), ProgramError> {
-    let alloc = console.alloc;
-    let meant = if is_sought {
-        meant_by(sought, task, named, alloc)?
-    } else {
-        None
-    };
-    let line = missing_line(alloc, task, named, meant.as_deref(), hint);
-    console.note(line_of(alloc, line));
-    Ok(())
+// A value that no network has, and what lets a list be written without it.
+#[derive(Clone, Copy)]
+struct MissingValue<'t, 'a> {
+    named: &'t NamedValue<'a>,
+    hint: &'static str,
 }
 
-// Reports the values that no network has, and answers how many there are without which the list is not written.
-fn report_named<O: Write, E: Write>(
-    sought: Sought<'_>,
+// The values that no network has of which something is said, and how many there are without which the list is not written.
+fn missing_values<'t, 'a>(
     task: &ExportTask<'_>,
-    search: &Search<'_, '_>,
-    console: &mut Console<'_, O, E>,
-) -> Result<usize, ProgramError> {
-    let (mut count, mut refused) = (0usize, 0usize);
+    search: &Search<'t, 'a>,
+) -> Result<(Vec<MissingValue<'t, 'a>>, usize), AllocError> {
+    let mut missing = Vec::new(search.alloc);
+    let mut refused = 0usize;
     for (named, is_met) in search.named.iter().zip(&search.are_met) {
         if *is_met {
             continue;
@@ -490,10 +446,62 @@ fn report_named<O: Write, E: Write>(
                 hint
             }
         };
-        count = count.saturating_add(1);
-        report_missing(sought, task, named, count <= MOST_SOUGHT, hint, console)?;
+        missing.push(MissingValue { named, hint })?;
+    }
+    Ok((missing, refused))
+}
+
+// What is looked for in place of the first of the values that no network has.
+fn seekers_of<'t, 'a, 'd>(
+    sought: Sought<'d>,
+    task: &ExportTask<'_>,
+    missing: &[MissingValue<'t, 'a>],
+    alloc: Global,
+) -> Result<Seekers<'t, 'a, 'd>, ProgramError> {
+    let mut seekers = Seekers::new(alloc);
+    for value in missing.iter().take(MOST_SOUGHT) {
+        seekers.add(value.named)?;
+    }
+    if seekers.count() > 0 {
+        offer_sought(sought, task.range, &mut seekers, alloc)?;
+    }
+    Ok(seekers)
+}
+
+// Reports the values that no network has, and answers how many there are without which the list is not written.
+fn report_named<O: Write, E: Write>(
+    sought: Sought<'_>,
+    task: &ExportTask<'_>,
+    search: &Search<'_, '_>,
+    console: &mut Console<'_, O, E>,
+) -> Result<usize, ProgramError> {
+    let alloc = console.alloc;
+    let (missing, refused) = missing_values(task, search)?;
+    let seekers = seekers_of(sought, task, missing.as_slice(), alloc)?;
+    for (number, value) in missing.iter().enumerate() {
+        let meant = seekers.meant(number)?;
+        let line = missing_line(alloc, task, value.named, meant.as_deref(), value.hint);
+        console.note(line_of(alloc, line));
     }
     Ok(refused)
+}
+
+// Says of the paths of files of whose values no network has any that no record has them, if none has.
+fn note_paths<O: Write, E: Write>(
+    sought: Sought<'_>,
+    task: &ExportTask<'_>,
+    search: &Search<'_, '_>,
+    console: &mut Console<'_, O, E>,
+) -> Result<(), ProgramError> {
+    for file in search.files.iter().filter(|file| file.is_all_missing()) {
+        if let Some((path, _)) = split_condition(file.condition) {
+            match sought {
+                Sought::One(database) => note_absent_path(database, task, path, console)?,
+                Sought::Several(several) => note_path_absent_along(several, path, console)?,
+            }
+        }
+    }
+    Ok(())
 }
 
 // Reports the values of files that no network has, and answers for how many files the list is not written.
@@ -525,6 +533,7 @@ fn report_search<O: Write, E: Write>(
 ) -> Result<bool, ProgramError> {
     let named = report_named(sought, task, search, console)?;
     let files = report_files(task, search, console);
+    note_paths(sought, task, search, console)?;
     Ok(named == 0 && files == 0)
 }
 
@@ -535,11 +544,15 @@ pub(crate) fn are_values_met<O: Write, E: Write>(
     task: &ExportTask<'_>,
     choice: &mut Choice<'_>,
     console: &mut Console<'_, O, E>,
-) -> Result<bool, ProgramError> {
+) -> Result<bool, ProgramError>
+    requires { data_section database.now ≡ choice.old.section.now }
+    ensures { choice.new.section ≡ choice.old.section }
+{
     let files = searches_of(console.alloc, task.files)?;
     let mut search = Search::new(console.alloc, task.named.as_slice(), files)?;
-    let networks = networks_in(console.alloc, database, task.range)?;
-    search.meet_all(networks, task.kinds, choice)?;
+    let looked = looked_at(database, task)?;
+    let networks = networks_in(console.alloc, database, looked.range)?;
+    search.meet_all(networks, looked.kinds, choice)?;
     report_search(Sought::One(database), task, &search, console)
 }
 

@@ -1,12 +1,12 @@
 //! How sets, tables, chains and variables may be named.
 use mmdb_arguments::Format;
-use mmdb_blocks::{is_set_name, is_variable_name};
+use mmdb_blocks::{is_set_name, is_table_name, is_variable_name};
 
 /// The most bytes of a chain's name, for iptables.
 const MOST_OF_CHAIN: usize = 28;
 
 const NOT_A_SET: &str =
-    "not the beginning of a set's name: 1 to 26 letters, digits, _, - and ., the first a letter or _";
+    "not the beginning of a set's name: 1 to 22 letters, digits, _, - and ., the first a letter or _";
 
 const NOT_A_CHAIN: &str =
     "not a chain's name: 1 to 28 letters, digits, _, - and ., the first a letter or _";
@@ -115,7 +115,7 @@ pub(crate) fn fault_of_name(format: Format, name: &str) -> Option<&'static str> 
 
 /// What is wrong with a text as the name of a table of nft.
 pub(crate) fn fault_of_table(name: &str) -> Option<&'static str> {
-    if !is_set_name(name) {
+    if !is_table_name(name) {
         return Some(NOT_A_TABLE);
     }
     is_one_of(name, WORDS_OF_NFT).then_some("a word of nft itself; give another --table")

@@ -1,24 +1,35 @@
 //! The chosen networks of a range, written out.
+ghost use Rattle.std.specs.Prelude.{◌≡◌, IfOk};
+ghost use Rattle.mmdb_reader.specs.File.{data_section};
+ghost use Rattle.mmdb_cmd_export.specs.Chosen.{section_of, section_walked, IsFor};
+
+use crate::absent_paths::note_absent_paths;
 use crate::adjusted::write_adjusted;
 use crate::asked::{AskedTexts, asked_texts};
 use crate::blocks::Blocks;
 use crate::chosen::Export;
 use crate::gathering::{AddressGathering, Adjustment};
 use crate::inputs::{ValueFile, check_inputs, read_adjustment, read_value_files};
+use crate::looked::{LookedAt, looked_at};
 use crate::missing::are_values_met;
 use crate::rows::ExportRows;
 use crate::sink::NetworkSink;
 use crate::stretches::export_files;
 use crate::task::{ExportTask, Shape, export_task};
 use mmdb_arguments::{ExportArguments, NoRequest};
-use mmdb_blocks::Syntax;
+use mmdb_blocks::{Kinds, Syntax};
 use mmdb_console::{Console, DONE, FAILED, Pace, ProgramError, note_range};
-use mmdb_layout::{Choice, Condition, Database, Networks, networks_in, open_database};
+use mmdb_layout::{
+    Choice, Condition, Database, Networks, can_be_walked, networks_in, open_database, range_asked,
+};
 use mmdb_reader::{IpNetwork, MaxMindDbError};
 use std::alloc::{AllocError, Global};
 use std::env::Env;
 use std::io::{BufRead, Write};
 use std::rt::Files;
+
+/// How many networks are named that can't be read. The others are counted.
+pub(crate) const MOST_NAMED: u64 = 10;
 
 /// Reports how many networks could not be read, and answers the status.
 pub(crate) fn report_faults<O: Write, E: Pace>(
@@ -39,7 +50,9 @@ fn report_unread<W: NetworkSink, O: Write, E: Pace>(
     error: MaxMindDbError,
     export: &mut Export<'_, '_, W>,
     console: &mut Console<'_, O, E>,
-) -> Result<(), ProgramError> {
+) -> Result<(), ProgramError>
+    ensures { section_of export.new.choice ≡ section_of export.old.choice }
+{
     let reported = export.write_unread(&error, console);
     drop(error);
     reported
@@ -50,7 +63,9 @@ fn export_all<'r, W: NetworkSink, O: Write, E: Pace>(
     networks: Networks<'r>,
     export: &mut Export<'_, 'r, W>,
     console: &mut Console<'_, O, E>,
-) -> Result<(), ProgramError> {
+) -> Result<(), ProgramError>
+    requires { IsFor export.old.choice (section_walked networks) }
+{
     for item in networks {
         match item {
             Ok(found) => export.write(found, console)?,
@@ -60,15 +75,18 @@ fn export_all<'r, W: NetworkSink, O: Write, E: Pace>(
     export.finish(console)
 }
 
-/// The choice by these conditions. None where there are none, and all networks are chosen.
+/// The choice of networks of a database by these conditions. None where there are none, and all networks are chosen.
 pub(crate) fn choice_of<'a>(
     alloc: Global,
+    database: &'a Database,
     conditions: &'a [Condition<'a>],
-) -> Result<Option<Choice<'a>>, AllocError> {
+) -> Result<Option<Choice<'a>>, AllocError>
+    ensures { IfOk result (λ choice. IsFor choice (data_section database.now)) }
+{
     if conditions.is_empty() {
         return Ok(None);
     }
-    Ok(Some(Choice::new(alloc, conditions)?))
+    Ok(Some(Choice::new(alloc, database.data_section(), conditions)?))
 }
 
 // Says of fields that no record had.
@@ -81,7 +99,22 @@ fn note_absent<W: NetworkSink, O: Write, E: Pace>(
     let (Some(met), Shape::Rows(layout)) = (sink.fields_met(), &task.shape) else {
         return Ok(());
     };
+    note_absent_paths(database, task, console)?;
     met.note_absent(layout.path_texts(), database.data_section(), console)
+}
+
+// Writes the chosen networks, and says of fields that no record had.
+fn export_noted<'a, 'r, W: NetworkSink, O: Write, E: Pace>(
+    database: &'r Database,
+    task: &'a ExportTask<'a>,
+    networks: Networks<'r>,
+    export: &mut Export<'a, 'r, W>,
+    console: &mut Console<'_, O, E>,
+) -> Result<(), ProgramError>
+    requires { IsFor export.old.choice (section_walked networks) }
+{
+    export_all(networks, export, console)?;
+    note_absent(database, task, &mut export.sink, console)
 }
 
 // Writes the chosen networks, reports how many could not be read, and answers the status.
@@ -91,12 +124,11 @@ fn export_with<'a, 'r, W: NetworkSink, O: Write, E: Pace>(
     networks: Networks<'r>,
     export: Export<'a, 'r, W>,
     console: &mut Console<'_, O, E>,
-) -> Result<u8, ProgramError> {
+) -> Result<u8, ProgramError>
+    requires { IsFor export.choice (section_walked networks) }
+{
     let mut export = export;
-    let exported = match export_all(networks, &mut export, console) {
-        Ok(()) => note_absent(database, task, &mut export.sink, console),
-        Err(error) => Err(error),
-    };
+    let exported = export_noted(database, task, networks, &mut export, console);
     let faults = export.faults;
     drop(export);
     exported?;
@@ -108,12 +140,15 @@ fn export_to<'a, 'r, W: NetworkSink, O: Write, E: Pace>(
     database: &'r Database,
     task: &'a ExportTask<'a>,
     networks: Networks<'r>,
+    kinds: Kinds,
     choice: Option<Choice<'a>>,
     sink: Result<W, ProgramError>,
     console: &mut Console<'_, O, E>,
-) -> Result<u8, ProgramError> {
+) -> Result<u8, ProgramError>
+    requires { IsFor choice (section_walked networks) }
+{
     match sink {
-        Ok(sink) => match Export::new(console.alloc, choice, task.kinds, sink) {
+        Ok(sink) => match Export::new(console.alloc, choice, kinds, sink) {
             Ok(export) => export_with(database, task, networks, export, console),
             Err(error) => {
                 drop(networks);
@@ -133,19 +168,23 @@ fn export_chosen<'a, 'r, O: Write, E: Pace>(
     database: &'r Database,
     task: &'a ExportTask<'a>,
     networks: Networks<'r>,
+    looked: LookedAt,
     choice: Option<Choice<'a>>,
     console: &mut Console<'_, O, E>,
-) -> Result<u8, ProgramError> {
-    let alloc = console.alloc;
+) -> Result<u8, ProgramError>
+    requires { IsFor choice (section_walked networks) }
+{
+    let (alloc, kinds) = (console.alloc, looked.kinds);
     match &task.shape {
         Shape::Rows(layout) => {
-            let rows = ExportRows::begin(alloc, layout, database.data_section(), console.out);
-            export_to(database, task, networks, choice, rows, console)
+            let section = database.data_section();
+            let rows = ExportRows::begin(alloc, layout, section, looked.range, console.out);
+            export_to(database, task, networks, kinds, choice, rows, console)
         }
         Shape::List(syntax) => {
             let may_be_empty = task.allow_empty || task.may_lack();
-            let blocks = Blocks::new(alloc, *syntax, task.kinds, task.range, may_be_empty);
-            export_to(database, task, networks, choice, blocks, console)
+            let blocks = Blocks::new(alloc, *syntax, task.kinds, looked.range, may_be_empty);
+            export_to(database, task, networks, kinds, choice, blocks, console)
         }
     }
 }
@@ -163,10 +202,13 @@ pub(crate) fn gather<'a, O: Write, E: Pace>(
     task: &'a ExportTask<'a>,
     choice: Option<Choice<'a>>,
     console: &mut Console<'_, O, E>,
-) -> Result<Gathered, ProgramError> {
-    let networks = networks_in(console.alloc, database, task.range)?;
-    let sink = AddressGathering::new(console.alloc, task.range);
-    let mut export = Export::new(console.alloc, choice, task.kinds, sink)?;
+) -> Result<Gathered, ProgramError>
+    requires { IsFor choice (data_section database.now) }
+{
+    let looked = looked_at(database, task)?;
+    let networks = networks_in(console.alloc, database, looked.range)?;
+    let sink = AddressGathering::new(console.alloc, looked.range);
+    let mut export = Export::new(console.alloc, choice, looked.kinds, sink)?;
     export_all(networks, &mut export, console)?;
     Ok(export.into_gathered())
 }
@@ -179,11 +221,21 @@ fn export_adjusted<'a, O: Write, E: Pace>(
     adjustment: &Adjustment,
     choice: Option<Choice<'a>>,
     console: &mut Console<'_, O, E>,
-) -> Result<u8, ProgramError> {
+) -> Result<u8, ProgramError>
+    requires { IsFor choice (data_section database.now) }
+{
     let gathered = gather(database, task, choice, console)?;
-    let chosen = &gathered.gathering.chosen;
-    write_adjusted(console.alloc, task, syntax, chosen, adjustment, console.out)?;
-    let faults = gathered.faults;
+    let (chosen, faults) = (&gathered.gathering.chosen, gathered.faults);
+    let is_whole = faults == 0;
+    write_adjusted(
+        console.alloc,
+        task,
+        syntax,
+        chosen,
+        adjustment,
+        is_whole,
+        console.out,
+    )?;
     drop(gathered);
     report_faults(faults, console)
 }
@@ -194,7 +246,10 @@ pub(crate) fn may_be_written<O: Write, E: Pace>(
     task: &ExportTask<'_>,
     choice: &mut Option<Choice<'_>>,
     console: &mut Console<'_, O, E>,
-) -> Result<bool, ProgramError> {
+) -> Result<bool, ProgramError>
+    requires { IsFor choice.old (data_section database.now) }
+    ensures { section_of choice.new ≡ section_of choice.old }
+{
     match (&task.shape, choice) {
         (Shape::List(_), Some(choice)) => are_values_met(database, task, choice, console),
         _ => Ok(true),
@@ -208,15 +263,16 @@ fn export_database<'a, O: Write, E: Pace>(
     adjustment: Option<&Adjustment>,
     console: &mut Console<'_, O, E>,
 ) -> Result<u8, ProgramError> {
-    let mut choice = choice_of(console.alloc, task.conditions.as_slice())?;
+    let mut choice = choice_of(console.alloc, database, task.conditions.as_slice())?;
     if !may_be_written(database, task, &mut choice, console)? {
         return Ok(FAILED);
     }
     if let (Shape::List(syntax), Some(adjustment)) = (&task.shape, adjustment) {
         return export_adjusted(database, task, *syntax, adjustment, choice, console);
     }
-    match networks_in(console.alloc, database, task.range) {
-        Ok(networks) => export_chosen(database, task, networks, choice, console),
+    let looked = looked_at(database, task)?;
+    match networks_in(console.alloc, database, looked.range) {
+        Ok(networks) => export_chosen(database, task, networks, looked, choice, console),
         Err(error) => {
             drop(choice);
             Err(ProgramError::from(error))
@@ -225,21 +281,26 @@ fn export_database<'a, O: Write, E: Pace>(
 }
 
 // Opens a file and writes its chosen networks, and answers the status.
-fn export_file<'a, R: Files + Env, O: Write, E: Pace>(
+fn export_file<R: Files + Env, O: Write, E: Pace>(
     rt: &R,
     file: &str,
-    task: &'a ExportTask<'a>,
+    task: ExportTask<'_>,
     adjustment: Option<&Adjustment>,
     console: &mut Console<'_, O, E>,
 ) -> Result<u8, ProgramError> {
-    match open_database(rt, file, console) {
-        Some(database) => {
-            let done = export_database(&database, task, adjustment, console);
-            drop(database);
-            done
-        }
-        None => Ok(FAILED),
-    }
+    let Some(database) = open_database(rt, file, console) else {
+        return Ok(FAILED);
+    };
+    let mut task = task;
+    task.range = range_asked(&[&database], task.range, console)?;
+    let done = if can_be_walked(&database, file, task.range, console)? {
+        export_database(&database, &task, adjustment, console)
+    } else {
+        Ok(FAILED)
+    };
+    drop(task);
+    drop(database);
+    done
 }
 
 // What is added to a list and taken away, if anything is; none where a file can't be read, which is reported.
@@ -274,8 +335,8 @@ fn export_with_values<R: Files + Env, I: BufRead, O: Write, E: Pace>(
         return Ok(FAILED);
     };
     match asked.files.as_slice() {
-        [file] => export_file(rt, *file, &task, adjustment.as_ref(), console),
-        files => export_files(rt, files, &task, adjustment.as_ref(), console),
+        [file] => export_file(rt, *file, task, adjustment.as_ref(), console),
+        files => export_files(rt, files, task, adjustment.as_ref(), console),
     }
 }
 

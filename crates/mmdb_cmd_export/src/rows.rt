@@ -1,6 +1,6 @@
 //! The rows of an export.
-use crate::clip::block_of;
-use crate::sink::{NetworkSink, kind_of};
+use crate::clip::Clip;
+use crate::sink::NetworkSink;
 use mmdb_cache::Cache;
 use mmdb_console::{ProgramError, put};
 use mmdb_json::RecordTexts;
@@ -29,6 +29,8 @@ const NETWORK_BYTES: usize = 64;
 pub(crate) struct ExportRows<'a, 'r> {
     alloc: Global,
     layout: &'a Layout<'a>,
+    /// What a row names of its network.
+    clip: Clip,
     /// The texts of the records of the database, where rows have whole ones.
     texts: Option<RecordTexts<'r>>,
     /// Rows with an empty network, by the offsets of their records.
@@ -55,10 +57,11 @@ fn join_row(
     line.extend_from_slice(after)
 }
 
-// The network that was found. Its bits are not masked again.
+// What a row names of the network that was found. Its bits are not masked again.
 #[inline(always)]
-fn network_of(found: &Found<'_>) -> Option<IpNetwork> {
-    kind_of(found).network_of(block_of(found)).ok()
+fn network_of(clip: Clip, found: &Found<'_>) -> Option<IpNetwork> {
+    let (kind, block) = clip.part_of(found);
+    kind.network_of(block).ok()
 }
 
 // Writes a row with its network.
@@ -113,11 +116,13 @@ fn most_of_rows(layout: &Layout<'_>) -> usize {
 }
 
 impl<'a, 'r> ExportRows<'a, 'r> {
-    /// The rows of the records of a data section, none yet. A header is written where the layout has one.
+    /// The rows of the records of a data section as far as they are in a range, none yet. A header is written where the layout
+    /// has one.
     pub(crate) fn begin<O: Write>(
         alloc: Global,
         layout: &'a Layout<'a>,
         section: &'r [u8],
+        range: Option<IpNetwork>,
         out: &mut O,
     ) -> Result<ExportRows<'a, 'r>, ProgramError> {
         let line = Vec::with_capacity(alloc, MOST_JOINED + NETWORK_BYTES)?;
@@ -126,6 +131,7 @@ impl<'a, 'r> ExportRows<'a, 'r> {
         Ok(ExportRows {
             alloc,
             layout,
+            clip: Clip::to(range),
             texts: texts_of(alloc, layout, section),
             kept: Cache::new(alloc, most_of_rows(layout)),
             last: Vec::new(alloc),
@@ -176,7 +182,7 @@ impl<'a, 'r> ExportRows<'a, 'r> {
     // Puts the row of a network together, where it is kept, short, and there is memory for it. Whether it was.
     #[inline(always)]
     fn join_kept(&mut self, found: &Found<'_>) -> bool {
-        let (Some(offset), Some(network)) = (found.offset(), network_of(found)) else {
+        let (Some(offset), Some(network)) = (found.offset(), network_of(self.clip, found)) else {
             return false;
         };
         let Some(row) = self.kept.get(offset) else {
@@ -215,7 +221,10 @@ impl NetworkSink for ExportRows<'_, '_> {
     }
 
     fn put<O: Write>(&mut self, found: &Found<'_>, out: &mut O) -> Result<(), ProgramError> {
-        let network = found.network()?;
+        let network = match network_of(self.clip, found) {
+            Some(network) => network,
+            None => found.network()?,
+        };
         let offset = found.offset();
         if let Some(offset) = offset {
             if let Some(row) = self.kept.get(offset) {
@@ -245,7 +254,7 @@ impl NetworkSink for ExportRows<'_, '_> {
         Some(&mut self.met)
     }
 
-    fn finish<O: Write>(&mut self, _out: &mut O) -> Result<(), ProgramError> {
+    fn finish<O: Write>(&mut self, _is_whole: bool, _out: &mut O) -> Result<(), ProgramError> {
         Ok(())
     }
 }

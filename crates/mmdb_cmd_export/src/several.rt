@@ -1,5 +1,6 @@
 //! Several databases side by side.
-use mmdb_blocks::{Block, BlockKind};
+use crate::clip::ipv4_part;
+use mmdb_blocks::{Block, BlockKind, Kinds};
 use mmdb_compare::{AskedDatabase, Together, TogetherStretch};
 use mmdb_console::ProgramError;
 use mmdb_layout::{Database, Found, NamedDatabase, ReadAlong};
@@ -10,9 +11,6 @@ use std::net::{IpAddr, Ipv4Addr, Ipv6Addr};
 
 /// The version of addresses of a database with IPv6.
 const IPV6: u16 = 6;
-
-/// The prefix of the block of all IPv4 addresses.
-const IPV4_PREFIX: u8 = 96;
 
 /// What each of several databases has in a block, in their order: none where it has no record there.
 pub(crate) type Answers<'r> = Vec<Option<Found<'r>>>;
@@ -50,23 +48,18 @@ fn all_of(databases: &[NamedDatabase<'_>]) -> Result<IpNetwork, MaxMindDbError> 
     Ok(IpNetwork::new(first, 0)?)
 }
 
-// What a range of IPv6 has of the addresses of IPv4, which are those that begin with 96 zeros.
-fn ipv4_part(range: IpNetwork) -> Result<Option<IpNetwork>, MaxMindDbError> {
-    let block = Block::of_network(range);
-    if block.first >= 1 << 32 {
-        return Ok(None);
+// What a range of IPv6 has of the addresses of IPv4.
+fn ipv4_range(range: IpNetwork) -> Result<Option<IpNetwork>, MaxMindDbError> {
+    match ipv4_part(Block::of_network(range)) {
+        Some(part) => Ok(Some(BlockKind::Ipv4.network_of(part)?)),
+        None => Ok(None),
     }
-    let part = Block {
-        first: block.first,
-        prefix: block.prefix.max(IPV4_PREFIX),
-    };
-    Ok(Some(BlockKind::Ipv4.network_of(part)?))
 }
 
 // The range in which a database is asked beside others: one without IPv6 for what it may have of it.
 fn range_in(database: &Database, range: IpNetwork) -> Result<Option<IpNetwork>, MaxMindDbError> {
     match range {
-        IpNetwork::V6(_) if !has_ipv6(database) => ipv4_part(range),
+        IpNetwork::V6(_) if !has_ipv6(database) => ipv4_range(range),
         _ => Ok(Some(range)),
     }
 }
@@ -78,6 +71,20 @@ pub(crate) fn kind_of_stretch(stretch: TogetherStretch) -> BlockKind {
     } else {
         BlockKind::Ipv6
     }
+}
+
+/// What a stretch of IPv6 has of the addresses of IPv4: lookups of them find what it has.
+pub(crate) fn ipv4_beside(stretch: TogetherStretch) -> Option<Block> {
+    if stretch.is_ipv4 {
+        return None;
+    }
+    ipv4_part(stretch.block)
+}
+
+/// Whether a list of some kinds has addresses of a stretch, if that is chosen.
+pub(crate) fn is_listed(kinds: Kinds, stretch: TogetherStretch) -> bool {
+    kinds.has(kind_of_stretch(stretch))
+        || kinds.has(BlockKind::Ipv4) && ipv4_beside(stretch).is_some()
 }
 
 /// The network of a stretch.

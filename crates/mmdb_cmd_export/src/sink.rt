@@ -18,8 +18,8 @@ pub(crate) trait NetworkSink: Drop {
     /// Which fields the records have, where fields are written.
     fn fields_met(&mut self) -> Option<&mut FieldsMet>;
 
-    /// Writes what comes after the last network.
-    fn finish<O: Write>(&mut self, out: &mut O) -> Result<(), ProgramError>;
+    /// Writes what comes after the last network. Where a network could not be read, the list is not whole.
+    fn finish<O: Write>(&mut self, is_whole: bool, out: &mut O) -> Result<(), ProgramError>;
 }
 
 /// The kind of a network that was found.

@@ -10,6 +10,8 @@ const NOT_A_BLOCK: &str = "not a network, an address or FIRST-LAST";
 pub(crate) struct Spelt {
     pub(crate) kind: BlockKind,
     pub(crate) range: BlockRange,
+    /// The addresses of IPv6 that it is written with, where those of IPv4 are meant.
+    pub(crate) mapped: Option<BlockRange>,
     /// The network as which one is read that has address bits after its prefix.
     pub(crate) read_as: Option<IpNetwork>,
 }
@@ -24,15 +26,24 @@ const MAPPED: BlockRange = BlockRange {
 const IPV4_BITS: u128 = 0xffff_ffff;
 
 // The addresses that a range means: those of IPv4 where each of its addresses is one of `::ffff:0:0/96`.
-fn meant_by(kind: BlockKind, range: BlockRange) -> (BlockKind, BlockRange) {
-    if kind == BlockKind::Ipv4 || range.first < MAPPED.first || range.last > MAPPED.last {
-        return (kind, range);
+fn meant_by(kind: BlockKind, written: BlockRange, read_as: Option<IpNetwork>) -> Spelt {
+    if kind == BlockKind::Ipv4 || written.first < MAPPED.first || written.last > MAPPED.last {
+        return Spelt {
+            kind,
+            range: written,
+            mapped: None,
+            read_as,
+        };
     }
-    let range = BlockRange {
-        first: range.first & IPV4_BITS,
-        last: range.last & IPV4_BITS,
-    };
-    (BlockKind::Ipv4, range)
+    Spelt {
+        kind: BlockKind::Ipv4,
+        range: BlockRange {
+            first: written.first & IPV4_BITS,
+            last: written.last & IPV4_BITS,
+        },
+        mapped: Some(written),
+        read_as,
+    }
 }
 
 // The kind and the number of an address.
@@ -58,12 +69,7 @@ fn range_between(first: &str, last: &str) -> Result<Spelt, &'static str> {
     if first > last {
         return Err("the last address is below the first");
     }
-    let (kind, range) = meant_by(kind, BlockRange { first, last });
-    Ok(Spelt {
-        kind,
-        range,
-        read_as: None,
-    })
+    Ok(meant_by(kind, BlockRange { first, last }, None))
 }
 
 // The addresses of a network.
@@ -74,18 +80,11 @@ fn of_network(network: IpNetwork) -> Spelt {
     };
     let block = Block::of_network(network);
     let is_exact = network.ip() == network.network();
-    let (kind, range) = meant_by(
-        kind,
-        BlockRange {
-            first: block.first,
-            last: block.last(),
-        },
-    );
-    Spelt {
-        kind,
-        range,
-        read_as: (!is_exact).then_some(network),
-    }
+    let range = BlockRange {
+        first: block.first,
+        last: block.last(),
+    };
+    meant_by(kind, range, (!is_exact).then_some(network))
 }
 
 /// The addresses that a text spells, or what is wrong with it.

@@ -1,8 +1,9 @@
 //! The rows of an export of several databases.
 use crate::absent_fields::AbsentFields;
 use crate::kept_texts::{KeptTexts, text_along};
-use crate::several::{Answers, Offsets, Several, fault_along, network_of_stretch};
+use crate::several::{Answers, Offsets, Several, fault_along, kind_of_stretch, network_of_stretch};
 use crate::stretches::StretchSink;
+use mmdb_blocks::Kinds;
 use mmdb_cache::Worth;
 use mmdb_compare::TogetherStretch;
 use mmdb_console::{Console, ProgramError, put};
@@ -289,6 +290,10 @@ impl<'a, 's, 'd> StretchRows<'a, 's, 'd> {
 }
 
 impl StretchSink for StretchRows<'_, '_, '_> {
+    fn takes(&self, kinds: Kinds, stretch: TogetherStretch) -> bool {
+        kinds.has(kind_of_stretch(stretch))
+    }
+
     fn take<O: Write>(
         &mut self,
         stretch: TogetherStretch,

@@ -1,17 +1,23 @@
 //! The chosen stretches of several databases, written out.
+use crate::absent_paths::note_absent_along;
 use crate::adjusted::write_adjusted;
 use crate::gathering::{Addresses, Adjustment};
 use crate::missing::are_values_met_in;
-use crate::networks::report_faults;
-use crate::several::{Answers, Offsets, Several, fault_along, kind_of_stretch, network_of_stretch};
+use crate::networks::{MOST_NAMED, report_faults};
+use crate::several::{
+    Answers, Offsets, Several, fault_along, ipv4_beside, is_listed, kind_of_stretch,
+    network_of_stretch,
+};
 use crate::stretch_choice::StretchChoice;
 use crate::stretch_rows::StretchRows;
 use crate::task::{ExportTask, Shape};
-use mmdb_blocks::{Kinds, Syntax};
+use mmdb_blocks::{BlockKind, Kinds, Syntax};
 use mmdb_compare::{Together, TogetherPart, TogetherStretch, UnreadLeaf};
 use mmdb_console::{Console, FAILED, Pace, Passed, ProgramError, Where};
-use mmdb_layout::{BesideFiles, Condition, Layout, NamedDatabase, open_named};
-use mmdb_reader::MaxMindDbError;
+use mmdb_layout::{
+    BesideFiles, Condition, Layout, NamedDatabase, can_be_walked, open_named, range_asked,
+};
+use mmdb_reader::{IpNetwork, MaxMindDbError};
 use std::alloc::{AllocError, Global};
 use std::env::Env;
 use std::io::Write;
@@ -22,6 +28,9 @@ const STEP: u64 = 1 << 16;
 
 /// What chosen stretches are put into.
 pub(crate) trait StretchSink: Drop {
+    /// Whether it takes stretches of some kinds of addresses, of which this is one.
+    fn takes(&self, kinds: Kinds, stretch: TogetherStretch) -> bool;
+
     /// Takes a stretch where all that it needs of the records there is kept. Whether it was taken; else `put` takes it.
     fn take<O: Write>(
         &mut self,
@@ -46,14 +55,26 @@ pub(crate) trait StretchSink: Drop {
     fn let_go(&mut self) -> bool;
 }
 
+// Adds the addresses of a stretch.
+fn add_stretch(stretch: TogetherStretch, addresses: &mut Addresses) -> Result<(), ProgramError> {
+    if let Some(block) = ipv4_beside(stretch) {
+        addresses.add_block(BlockKind::Ipv4, block)?;
+    }
+    addresses.add_block(kind_of_stretch(stretch), stretch.block)
+}
+
 impl StretchSink for Addresses {
+    fn takes(&self, kinds: Kinds, stretch: TogetherStretch) -> bool {
+        is_listed(kinds, stretch)
+    }
+
     fn take<O: Write>(
         &mut self,
         stretch: TogetherStretch,
         _offsets: &Offsets,
         _out: &mut O,
     ) -> Result<bool, ProgramError> {
-        self.add_block(kind_of_stretch(stretch), stretch.block)?;
+        add_stretch(stretch, self)?;
         Ok(true)
     }
 
@@ -64,7 +85,7 @@ impl StretchSink for Addresses {
         _answers: &Answers<'_>,
         _out: &mut O,
     ) -> Result<(), ProgramError> {
-        self.add_block(kind_of_stretch(stretch), stretch.block)
+        add_stretch(stretch, self)
     }
 
     fn fault_in(&self, _answers: &Answers<'_>) -> Option<usize> {
@@ -91,21 +112,46 @@ fn fault_in<W: StretchSink>(
     sink.fault_in(answers)
 }
 
-// The network of a stretch as a report names it, with the file that is at fault, if it is known.
-fn name_of(
-    alloc: Global,
-    several: &Several<'_>,
-    stretch: TogetherStretch,
+// A network that can't be read: as the file has it that is at fault, if that is known, or else that of a stretch.
+#[derive(Clone, Copy)]
+struct FaultyNetwork {
     place: Option<usize>,
-) -> Result<String, ProgramError> {
-    let network = network_of_stretch(stretch)?;
-    Ok(match place {
-        Some(place) => {
-            let file = several.name_at(place);
-            format!(in alloc; "{file}: {network}")?
+    network: IpNetwork,
+}
+
+impl FaultyNetwork {
+    // Of a stretch, where the answer at a place is at fault, if it is known.
+    fn of(
+        stretch: TogetherStretch,
+        place: Option<usize>,
+        answers: &Answers<'_>,
+    ) -> Result<FaultyNetwork, ProgramError> {
+        let network = match place.and_then(|place| network_at(place, answers)) {
+            Some(network) => network,
+            None => network_of_stretch(stretch)?,
+        };
+        Ok(FaultyNetwork { place, network })
+    }
+
+    // As a report names it.
+    fn name(self, alloc: Global, several: &Several<'_>) -> Result<String, AllocError> {
+        let network = self.network;
+        match self.place {
+            Some(place) => {
+                let file = several.name_at(place);
+                format!(in alloc; "{file}: {network}")
+            }
+            None => network.to_string(alloc),
         }
-        None => network.to_string(alloc)?,
-    })
+    }
+}
+
+// The network of the answer at a place, as its file has it.
+fn network_at(place: usize, answers: &Answers<'_>) -> Option<IpNetwork> {
+    match answers.get(place) {
+        Some(Some(found)) => found.network().ok(),
+        _ => None,
+    }
 }
 
 // Where a leaf is that can't be read, as a report names it.
@@ -126,6 +172,8 @@ struct StretchExport<'a, 's, 'd, W: StretchSink> {
     choice: StretchChoice<'a>,
     sink: W,
     faults: u64,
+    /// The network of each database that was the last one of it that could not be read.
+    faulty: Vec<Option<IpNetwork>>,
     /// How many stretches passed.
     passed: u64,
 }
@@ -133,19 +181,21 @@ struct StretchExport<'a, 's, 'd, W: StretchSink> {
 impl<'a, 's, 'd, W: StretchSink> StretchExport<'a, 's, 'd, W> {
     // Of no stretch yet.
     fn new(
+        alloc: Global,
         several: &'s Several<'d>,
         kinds: Kinds,
         choice: StretchChoice<'a>,
         sink: W,
-    ) -> StretchExport<'a, 's, 'd, W> {
-        StretchExport {
+    ) -> Result<StretchExport<'a, 's, 'd, W>, AllocError> {
+        Ok(StretchExport {
             several,
             kinds,
             choice,
             sink,
             faults: 0,
+            faulty: vec![in alloc; None; several.asked_count()]?,
             passed: 0,
-        }
+        })
     }
 
     // Lets go of all that is kept to be faster. Whether there may be some.
@@ -188,22 +238,30 @@ impl<'a, 's, 'd, W: StretchSink> StretchExport<'a, 's, 'd, W> {
         }
     }
 
-    // Reports why a stretch can't be written.
+    // Whether a network that can't be read is another one than the last of its file, which is noted: one of a file is in as many
+    // stretches as the others have networks there.
+    fn is_new_fault(&mut self, faulty: FaultyNetwork) -> bool {
+        let Some(place) = faulty.place else {
+            return true;
+        };
+        match self.faulty.get_mut(place) {
+            Some(last) => last.replace(faulty.network) != Some(faulty.network),
+            None => true,
+        }
+    }
+
+    // Reports why a network can't be written, after what was written.
     fn report_fault<O: Write, E: Write>(
         &self,
-        stretch: TogetherStretch,
-        answers: &Answers<'_>,
+        faulty: FaultyNetwork,
         error: &MaxMindDbError,
         console: &mut Console<'_, O, E>,
     ) -> Result<(), ProgramError> {
-        let alloc = console.alloc;
-        let place = fault_in(alloc, self.choice.conditions(), &self.sink, answers);
-        let name = name_of(alloc, self.several, stretch, place)?;
-        console.report_behind(Ok(name), error)
+        console.report_behind(faulty.name(console.alloc, self.several), error)
     }
 
-    // Reports why a stretch can't be written. Where there is no memory, all that is kept is let go, and it is tried once more:
-    // nothing was reported.
+    // Counts why a stretch can't be written, once for each network of a file, and reports it, unless enough were named. Where
+    // there is no memory, all that is kept is let go, and it is tried once more: nothing was reported.
     fn report<O: Write, E: Write>(
         &mut self,
         stretch: TogetherStretch,
@@ -211,11 +269,19 @@ impl<'a, 's, 'd, W: StretchSink> StretchExport<'a, 's, 'd, W> {
         error: &MaxMindDbError,
         console: &mut Console<'_, O, E>,
     ) -> Result<(), ProgramError> {
+        let place = fault_in(console.alloc, self.choice.conditions(), &self.sink, answers);
+        let faulty = FaultyNetwork::of(stretch, place, answers)?;
+        if !self.is_new_fault(faulty) {
+            return Ok(());
+        }
         self.faults = self.faults.saturating_add(1);
-        match self.report_fault(stretch, answers, error, console) {
+        if self.faults > MOST_NAMED {
+            return Ok(());
+        }
+        match self.report_fault(faulty, error, console) {
             Err(problem) if problem.is_memory() && self.let_go() => {
                 drop(problem);
-                self.report_fault(stretch, answers, error, console)
+                self.report_fault(faulty, error, console)
             }
             done => done,
         }
@@ -284,7 +350,7 @@ impl<'a, 's, 'd, W: StretchSink> StretchExport<'a, 's, 'd, W> {
         console: &mut Console<'_, O, E>,
     ) -> Result<(), ProgramError> {
         self.show_passed(console);
-        if !self.kinds.has(kind_of_stretch(stretch)) {
+        if !self.sink.takes(self.kinds, stretch) {
             return Ok(());
         }
         self.several.put_offsets(together, offsets)?;
@@ -306,7 +372,7 @@ impl<'a, 's, 'd, W: StretchSink> StretchExport<'a, 's, 'd, W> {
         }
     }
 
-    // Reports a leaf of the database at a place that can't be read.
+    // Counts a leaf of the database at a place that can't be read, and reports it, unless enough were named.
     fn report_leaf<O: Write, E: Write>(
         &mut self,
         place: usize,
@@ -317,6 +383,10 @@ impl<'a, 's, 'd, W: StretchSink> StretchExport<'a, 's, 'd, W> {
         let Some(leaf) = leaf else {
             return Ok(());
         };
+        if self.faults > MOST_NAMED {
+            drop(leaf);
+            return Ok(());
+        }
         let name = name_of_leaf(console.alloc, self.several.name_at(place), &leaf);
         let reported = console.report_behind(name, &leaf.error);
         drop(leaf);
@@ -365,7 +435,7 @@ fn write_rows<'a, 's, 'd, O: Write, E: Pace>(
 ) -> Result<u8, ProgramError> {
     let rows = StretchRows::begin(console.alloc, layout, several, console.out)?;
     let choice = choice_of_stretches(console.alloc, several, task);
-    let mut export = StretchExport::new(several, task.kinds, choice, rows);
+    let mut export = StretchExport::new(console.alloc, several, task.kinds, choice, rows)?;
     let written = match export.write_all(together, console) {
         Ok(()) => export.sink.note_absent(console),
         Err(error) => Err(error),
@@ -373,6 +443,7 @@ fn write_rows<'a, 's, 'd, O: Write, E: Pace>(
     let faults = export.faults;
     drop(export);
     written?;
+    note_absent_along(several, task, console)?;
     report_faults(faults, console)
 }
 
@@ -387,11 +458,20 @@ fn write_list<'a, 's, 'd, O: Write, E: Pace>(
 ) -> Result<u8, ProgramError> {
     let alloc = console.alloc;
     let choice = choice_of_stretches(alloc, several, task);
-    let mut export = StretchExport::new(several, task.kinds, choice, Addresses::new(alloc));
+    let addresses = Addresses::new(alloc);
+    let mut export = StretchExport::new(alloc, several, task.kinds, choice, addresses)?;
     let exported = export.write_all(together, console);
     export.let_go();
     let written = match exported {
-        Ok(()) => write_adjusted(alloc, task, syntax, &export.sink, adjustment, console.out),
+        Ok(()) => write_adjusted(
+            alloc,
+            task,
+            syntax,
+            &export.sink,
+            adjustment,
+            export.faults == 0,
+            console.out,
+        ),
         Err(error) => Err(error),
     };
     let faults = export.faults;
@@ -474,11 +554,33 @@ fn export_databases<'a, 'd, O: Write, E: Pace>(
     done
 }
 
+// Writes the chosen stretches of databases in the range in which they are asked, and answers the status.
+fn export_opened<O: Write, E: Pace>(
+    databases: &[NamedDatabase<'_>],
+    task: ExportTask<'_>,
+    adjustment: Option<&Adjustment>,
+    console: &mut Console<'_, O, E>,
+) -> Result<u8, ProgramError> {
+    let mut all = Vec::with_capacity(console.alloc, databases.len())?;
+    for named in databases {
+        all.push(&named.database)?;
+    }
+    let mut task = task;
+    task.range = range_asked(all.as_slice(), task.range, console)?;
+    drop(all);
+    for named in databases {
+        if !can_be_walked(&named.database, named.name, task.range, console)? {
+            return Ok(FAILED);
+        }
+    }
+    export_databases(databases, &task, adjustment, console)
+}
+
 /// Opens files and writes the chosen stretches of their databases side by side, and answers the status.
-pub(crate) fn export_files<'a, R: Files + Env, O: Write, E: Pace>(
+pub(crate) fn export_files<R: Files + Env, O: Write, E: Pace>(
     rt: &R,
     names: &[&str],
-    task: &'a ExportTask<'a>,
+    task: ExportTask<'_>,
     adjustment: Option<&Adjustment>,
     console: &mut Console<'_, O, E>,
 ) -> Result<u8, ProgramError> {
@@ -486,7 +588,7 @@ pub(crate) fn export_files<'a, R: Files + Env, O: Write, E: Pace>(
     let done = if databases.has_failed() {
         Ok(FAILED)
     } else {
-        export_databases(databases.open.as_slice(), task, adjustment, console)
+        export_opened(databases.open.as_slice(), task, adjustment, console)
     };
     drop(databases);
     done

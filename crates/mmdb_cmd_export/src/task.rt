@@ -3,7 +3,7 @@ use crate::conditions::{NamedValue, conditions_of, named_values};
 use crate::inputs::ValueFile;
 use crate::names::{fault_of_name, fault_of_table};
 use mmdb_arguments::{ExportArguments, Format, ListArguments, NoRequest};
-use mmdb_blocks::{BlockKind, Kinds, Syntax, is_list_value, is_set_name};
+use mmdb_blocks::{Kinds, Syntax, is_list_value, is_table_name};
 use mmdb_layout::{Condition, Layout, NETWORK, layout_of};
 use mmdb_reader::IpNetwork;
 use std::alloc::Global;
@@ -122,7 +122,7 @@ fn target_of<'a>(
     format: Format,
     jump: Option<&'a str>,
 ) -> Result<&'a str, NoRequest> {
-    let is_right = is_set_name(jump.unwrap_or(""));
+    let is_right = is_table_name(jump.unwrap_or(""));
     let wrong = ["--jump", "needs --format iptables", "not a target"];
     let is_taken = matches!(format, Format::Iptables);
     text_of(alloc, jump, "DROP", is_taken, is_right, wrong)
@@ -204,15 +204,6 @@ fn shape_of<'a>(alloc: Global, arguments: &'a ExportArguments<'a>) -> Result<Sha
     list_of(alloc, syntax, arguments.fields.as_slice())
 }
 
-// Which kinds of addresses are wanted: both where both are asked for, or none.
-fn kinds_of(ipv4: bool, ipv6: bool) -> Kinds {
-    match (ipv4, ipv6) {
-        (true, false) => Kinds::One(BlockKind::Ipv4),
-        (false, true) => Kinds::One(BlockKind::Ipv6),
-        _ => Kinds::Both,
-    }
-}
-
 /// What the arguments of `export` ask for in a range, with the values of files. An `Err` where one is not what is wanted in its place.
 pub(crate) fn export_task<'a>(
     alloc: Global,
@@ -225,7 +216,7 @@ pub(crate) fn export_task<'a>(
         conditions: conditions_of(alloc, &arguments.conditions, files)?,
         named: named_values(alloc, &arguments.conditions)?,
         files,
-        kinds: kinds_of(arguments.list.ipv4, arguments.list.ipv6),
+        kinds: Kinds::asked(arguments.list.ipv4, arguments.list.ipv6),
         shape: shape_of(alloc, arguments)?,
         has_more: !arguments.list.also.is_empty(),
         allow_empty: arguments.list.allow_empty,

@@ -3,28 +3,81 @@ use mmdb_compare::{Comparison, ComparisonPart, KnownPairs, Offsets, Side, SideBy
 use mmdb_reader::{IpNetwork, LookupResult, MaxMindDbError, Reader};
 use mmdb_value::Value;
 use std::alloc::Global;
-use std::net::{IpAddr, Ipv4Addr};
+use std::net::{IpAddr, Ipv4Addr, Ipv6Addr};
 
-/// How many addresses of IPv4 have a record in one of two databases, and of how many the records differ.
+/// How many of what is counted have a record in one of two databases, and in how many the records differ.
 #[derive(Clone, Copy)]
-pub(crate) struct Change {
+pub(crate) struct Share {
     pub(crate) all: u64,
     pub(crate) changed: u64,
 }
 
-// How many addresses a stretch has; one of IPv4 has no more than 2^32.
-fn addresses_of(stretch: Stretch) -> u64 {
-    let bits = 128u32.saturating_sub(u32::from(stretch.block.prefix));
-    1u64.checked_shl(bits.min(32)).unwrap_or(0)
+impl Share {
+    // Counts some more.
+    fn count(&mut self, count: u64, is_same: bool) {
+        self.all = self.all.saturating_add(count);
+        if !is_same {
+            self.changed = self.changed.saturating_add(count);
+        }
+    }
+}
+
+/// How much of two databases differs: of addresses of IPv4, and of networks of IPv6 with a prefix of 48, of which one has
+/// changed where any of it did.
+#[derive(Clone, Copy)]
+pub(crate) struct Change {
+    pub(crate) ipv4: Share,
+    pub(crate) ipv6: Share,
+    /// The network of the prefix 48 of which a part was counted last, and whether it has changed.
+    last: Option<(u128, bool)>,
+}
+
+/// How many bits are behind a prefix of 48.
+const BEHIND_48: u32 = 80;
+
+// The bits of a stretch's addresses that differ among them.
+fn free_bits(stretch: Stretch) -> u32 {
+    128u32.saturating_sub(u32::from(stretch.block.prefix))
 }
 
 impl Change {
-    // Counts the addresses of a stretch.
+    // Nothing yet.
+    fn none() -> Change {
+        let none = Share { all: 0, changed: 0 };
+        Change {
+            ipv4: none,
+            ipv6: none,
+            last: None,
+        }
+    }
+
+    // Counts the network with the prefix 48 of which a stretch is a part, once.
+    fn count_part(&mut self, first: u128, is_same: bool) {
+        let network = first >> BEHIND_48;
+        let had_changed = match self.last {
+            Some((last, has_changed)) if last == network => has_changed,
+            _ => {
+                self.ipv6.count(1, true);
+                false
+            }
+        };
+        if !is_same && !had_changed {
+            self.ipv6.changed = self.ipv6.changed.saturating_add(1);
+        }
+        self.last = Some((network, had_changed || !is_same));
+    }
+
+    // Counts the addresses or networks of a stretch, which is behind those before it.
     fn count(&mut self, stretch: Stretch, is_same: bool) {
-        let addresses = addresses_of(stretch);
-        self.all = self.all.saturating_add(addresses);
-        if !is_same {
-            self.changed = self.changed.saturating_add(addresses);
+        let bits = free_bits(stretch);
+        if stretch.is_ipv4 {
+            self.ipv4
+                .count(1u64.checked_shl(bits.min(32)).unwrap_or(0), is_same);
+        } else if bits >= BEHIND_48 {
+            self.ipv6
+                .count(1u64.checked_shl(bits - BEHIND_48).unwrap_or(0), is_same);
+        } else {
+            self.count_part(stretch.block.first, is_same);
         }
     }
 }
@@ -40,6 +93,17 @@ fn record_of<'r>(
     }
 }
 
+/// Why a database can't be compared, and which of the two.
+pub(crate) type SideError = (Side, MaxMindDbError);
+
+// What was got of a side.
+fn of_side<T>(side: Side, got: Result<T, MaxMindDbError>) -> Result<T, SideError> {
+    match got {
+        Ok(value) => Ok(value),
+        Err(error) => Err((side, error)),
+    }
+}
+
 /// Two databases side by side, and what is known of their records.
 #[derive(Drop)]
 struct OldAndNew<'r> {
@@ -49,10 +113,16 @@ struct OldAndNew<'r> {
 }
 
 impl<'r> OldAndNew<'r> {
-    // Whether both records of a stretch are equal, by their values. An `Err` is of the old one where that can't be read.
-    fn have_same_values(&self, alloc: Global, stretch: Stretch) -> Result<bool, MaxMindDbError> {
-        let old = record_of(alloc, self.comparison.found_in_old(stretch))?;
-        let new = record_of(alloc, self.comparison.found_in_new(stretch))?;
+    // Whether both records of a stretch are equal, by their values.
+    fn have_same_values(&self, alloc: Global, stretch: Stretch) -> Result<bool, SideError> {
+        let old = of_side(
+            Side::Old,
+            record_of(alloc, self.comparison.found_in_old(stretch)),
+        )?;
+        let new = of_side(
+            Side::New,
+            record_of(alloc, self.comparison.found_in_new(stretch)),
+        )?;
         Ok(old == new)
     }
 
@@ -62,7 +132,7 @@ impl<'r> OldAndNew<'r> {
         alloc: Global,
         stretch: Stretch,
         offsets: Offsets,
-    ) -> Result<bool, MaxMindDbError> {
+    ) -> Result<bool, SideError> {
         if let Some(is_same) = self.known.kept(offsets) {
             return Ok(is_same);
         }
@@ -76,7 +146,7 @@ impl<'r> OldAndNew<'r> {
     }
 
     // Whether both databases have the same in a stretch.
-    fn is_same(&mut self, alloc: Global, stretch: Stretch) -> Result<bool, MaxMindDbError> {
+    fn is_same(&mut self, alloc: Global, stretch: Stretch) -> Result<bool, SideError> {
         if !stretch.has_old || !stretch.has_new {
             return Ok(false);
         }
@@ -97,15 +167,15 @@ impl<'r> OldAndNew<'r> {
     }
 
     // Compares all.
-    fn change(&mut self, alloc: Global) -> Result<Change, MaxMindDbError> {
-        let mut change = Change { all: 0, changed: 0 };
+    fn change(&mut self, alloc: Global) -> Result<Change, SideError> {
+        let mut change = Change::none();
         for _ in 0..u64::MAX {
             match self.comparison.next_part() {
                 Some(ComparisonPart::Stretch(stretch)) => {
                     let is_same = self.is_same(alloc, stretch)?;
                     change.count(stretch, is_same);
                 }
-                Some(ComparisonPart::Unread(side)) => return Err(self.unread(side)),
+                Some(ComparisonPart::Unread(side)) => return Err((side, self.unread(side))),
                 None => break,
             }
         }
@@ -113,30 +183,41 @@ impl<'r> OldAndNew<'r> {
     }
 }
 
-// All addresses of IPv4.
-fn ipv4() -> Result<IpNetwork, MaxMindDbError> {
-    Ok(IpNetwork::new(IpAddr::V4(Ipv4Addr::UNSPECIFIED), 0)?)
+// All addresses that a database may have.
+fn all_of(database: &Reader<&[u8]>) -> Result<IpNetwork, MaxMindDbError> {
+    let first = if database.metadata().ip_version == 4 {
+        IpAddr::V4(Ipv4Addr::UNSPECIFIED)
+    } else {
+        IpAddr::V6(Ipv6Addr::UNSPECIFIED)
+    };
+    Ok(IpNetwork::new(first, 0)?)
 }
 
-/// How much of two databases differs. An `Err` where one of them can't be read, or out of memory.
+// What is kept of two databases that are compared.
+fn kept_of<'r>(
+    alloc: Global,
+    old: &'r Reader<&'r [u8]>,
+    new: &'r Reader<&'r [u8]>,
+) -> Result<(SideBySide<'r>, KnownPairs), MaxMindDbError> {
+    let records = SideBySide::new(alloc, old.data_section(), new.data_section())?;
+    Ok((records, KnownPairs::new(alloc)?))
+}
+
+/// How much of two databases of one IP version differs. An `Err` where one of them can't be read, or out of memory.
 pub(crate) fn change_between<'r>(
     alloc: Global,
     old: &'r Reader<&'r [u8]>,
     new: &'r Reader<&'r [u8]>,
-) -> Result<Change, MaxMindDbError> {
-    let records = SideBySide::new(alloc, old.data_section(), new.data_section())?;
-    let known = KnownPairs::new(alloc)?;
-    match Comparison::new(alloc, old, new, ipv4()?) {
-        Ok(comparison) => {
-            let mut both = OldAndNew {
-                comparison,
-                records,
-                known,
-            };
-            let change = both.change(alloc);
-            drop(both);
-            change
-        }
-        Err((_, error)) => Err(error),
-    }
+) -> Result<Change, SideError> {
+    let range = of_side(Side::Old, all_of(old))?;
+    let (records, known) = of_side(Side::Old, kept_of(alloc, old, new))?;
+    let comparison = Comparison::new(alloc, old, new, range)?;
+    let mut both = OldAndNew {
+        comparison,
+        records,
+        known,
+    };
+    let change = both.change(alloc);
+    drop(both);
+    change
 }

@@ -1,6 +1,6 @@
 //! Shares of a hundred.
 use mmdb_arguments::NoRequest;
-use std::alloc::Global;
+use std::alloc::{AllocError, Global};
 
 /// How many digits may come after the point.
 const MOST_DIGITS: usize = 3;
@@ -54,5 +54,22 @@ impl Percent {
     pub(crate) fn is_below(self, part: u64, whole: u64) -> bool {
         let part = u128::from(part).saturating_mul(u128::from(WHOLE));
         part > u128::from(whole).saturating_mul(u128::from(self.thousandths))
+    }
+
+    /// The share that a part is of a whole, or the next one up that has three digits behind the point.
+    pub(crate) fn of(part: u64, whole: u64) -> Percent {
+        let part = u128::from(part).saturating_mul(u128::from(WHOLE));
+        let thousandths = part.div_ceil(u128::from(whole.max(1)));
+        Percent {
+            thousandths: u64::try_from(thousandths).unwrap_or(u64::MAX),
+        }
+    }
+
+    /// The share as a number, without zeros at its end.
+    pub(crate) fn text(self, alloc: Global) -> Result<String, AllocError> {
+        let (whole, behind) = (self.thousandths / 1000, self.thousandths % 1000);
+        let text: String = format!(in alloc; "{whole}.{behind:03}")?;
+        let shown = text.as_str().trim_end_matches('0').trim_end_matches('.');
+        String::from_str(alloc, shown)
     }
 }

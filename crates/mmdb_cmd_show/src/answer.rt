@@ -1,5 +1,5 @@
 //! What databases have for an address, as JSON.
-use crate::databases::{ShownDatabase, first_value};
+use crate::databases::{ShownDatabase, first_value, lookup_in};
 use json::{Pretty, Token, Writer};
 use mmdb_found::write_found;
 use mmdb_json::{TokenSink, write_value};
@@ -152,7 +152,7 @@ impl AddressAnswer<'_, '_, '_> {
         database: &Database,
         out: &mut W,
     ) -> Result<bool, MaxMindDbError> {
-        let found = database.lookup(self.address)?;
+        let found = lookup_in(database, self.address)?;
         let network = found.network()?;
         begin_answer(self.alloc, self.address, out)?;
         write_network(self.alloc, network, out)?;
@@ -169,7 +169,7 @@ impl AddressAnswer<'_, '_, '_> {
         out: &mut W,
     ) -> Result<bool, MaxMindDbError> {
         if let [only] = databases {
-            let found = only.database.lookup(self.address)?;
+            let found = lookup_in(only.database, self.address)?;
             return write_found(self.alloc, &found, path, out);
         }
         let value = first_value(self.alloc, databases, self.address, path)?;

@@ -1,7 +1,7 @@
 //! The command `show`.
 use crate::answer::{ADDRESS, AddressAnswer, DatabaseAnswer, Shown, put_records};
 use crate::asked::AskedTexts;
-use crate::databases::{ShownDatabase, answers_of, name_at_fault, shown_databases};
+use crate::databases::{ShownDatabase, answers_of, lookup_in, name_at_fault, shown_databases};
 use mmdb_arguments::{NoRequest, ShowArguments};
 use mmdb_console::{BAD_ARGUMENTS, Console, DONE, FAILED, NOT_FOUND, ProgramError};
 use mmdb_layout::{
@@ -205,7 +205,7 @@ fn show_all<O: Write, E: Write>(
 
 // Whether a database has a record of one of the addresses.
 fn has_records(database: &Database, addresses: &[IpAddr]) -> bool {
-    addresses.iter().any(|address| match database.lookup(*address) {
+    addresses.iter().any(|address| match lookup_in(database, *address) {
         Ok(found) => found.offset().is_some(),
         Err(_) => false,
     })
@@ -222,7 +222,7 @@ fn look_at(
         if met.are_all_met() {
             return;
         }
-        if let Ok(found) = database.lookup(*address) {
+        if let Ok(found) = lookup_in(database, *address) {
             met.look(&found, paths);
         }
     }

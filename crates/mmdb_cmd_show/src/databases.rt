@@ -1,6 +1,7 @@
 //! Databases that are asked in turn.
 use crate::answer::DatabaseAnswer;
-use mmdb_layout::{Database, NamedDatabase};
+use mmdb_found::value_along;
+use mmdb_layout::{Database, Found, NamedDatabase};
 use mmdb_reader::{MaxMindDbError, PathElement};
 use mmdb_value::Value;
 use std::alloc::{AllocError, Global};
@@ -36,12 +37,25 @@ pub(crate) fn shown_databases<'d>(
     Ok(shown)
 }
 
-// Whether a database can be asked for an address: for one of IPv6 only where it has such.
+// Whether a database can be asked for an address: for one of IPv6 only where it has such, or where that is mapped to one of IPv4.
 fn can_be_asked(database: &Database, address: IpAddr) -> bool {
-    match address {
-        IpAddr::V4(_) => true,
-        IpAddr::V6(_) => database.metadata().ip_version != IPV4,
+    address.to_canonical().is_ipv4() || database.metadata().ip_version != IPV4
+}
+
+/// What a database has for an address. One that is mapped to one of IPv4 (`::ffff:1.2.3.4`) is asked as it is written, and as
+/// that where the database has no IPv6, or no record of it.
+pub(crate) fn lookup_in(database: &Database, address: IpAddr) -> Result<Found<'_>, MaxMindDbError> {
+    let canonical = address.to_canonical();
+    if canonical == address {
+        return database.lookup(address);
     }
+    if database.metadata().ip_version != IPV4 {
+        let found = database.lookup(address)?;
+        if found.offset().is_some() {
+            return Ok(found);
+        }
+    }
+    database.lookup(canonical)
 }
 
 // Whether a database is passed over: it can't be asked for an address, and another one can.
@@ -59,8 +73,8 @@ fn value_in<'d>(
     address: IpAddr,
     path: &[PathElement<'_>],
 ) -> Result<Option<Value<'d>>, MaxMindDbError> {
-    let found = database.lookup(address)?;
-    found.decode_path(alloc, path)
+    let found = lookup_in(database, address)?;
+    value_along(alloc, &found, path)
 }
 
 /// The value at a path in the first of the databases that has one there. Fails where one that is asked before can't be read so.
@@ -123,7 +137,7 @@ fn answer_of<'d>(
     database: &'d Database,
     address: IpAddr,
 ) -> Result<DatabaseAnswer<'d>, MaxMindDbError> {
-    let found = database.lookup(address)?;
+    let found = lookup_in(database, address)?;
     Ok(DatabaseAnswer {
         network: found.network()?,
         record: found.decode(alloc)?,

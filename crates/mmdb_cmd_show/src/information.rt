@@ -1,29 +1,18 @@
 //! What a database says of itself, and which fields its records have.
 use crate::fields::{Field, FieldPaths, fields_of};
-use jiff::Timestamp;
 use json::{Pretty, Token};
 use mmdb_arguments::{InfoArguments, shown_text};
 use mmdb_console::{Console, DONE, FAILED, ProgramError, line_of};
 use mmdb_json::write_value;
-use mmdb_layout::{Database, open_database};
+use mmdb_layout::{Database, can_be_walked, open_database};
 use mmdb_reader::{Metadata, Reader, Sections};
+use mmdb_records::date_of;
 use mmdb_value::Value;
 use std::alloc::{AllocError, Global};
 use std::collections::BTreeMap;
 use std::env::Env;
 use std::io::Write;
 use std::rt::Files;
-
-// The date of a number of seconds since 1970, where it has one.
-fn date_of(alloc: Global, seconds: u64) -> Result<Option<String>, AllocError> {
-    let Ok(seconds) = i64::try_from(seconds) else {
-        return Ok(None);
-    };
-    match Timestamp::from_second(seconds) {
-        Ok(time) => Ok(Some(time.to_string(alloc)?)),
-        Err(_) => Ok(None),
-    }
-}
 
 /// Lines that a person reads, added one after another.
 #[derive(Drop)]
@@ -355,6 +344,9 @@ fn put_with_fields<O: Write, E: Write>(
     json: bool,
     console: &mut Console<'_, O, E>,
 ) -> Result<u8, ProgramError> {
+    if !can_be_walked(database, file, None, console)? {
+        return Ok(FAILED);
+    }
     let fields = fields_of(console.alloc, database)?;
     put_described(database, path, Some(&fields), json, console)?;
     note_fields(file, &fields, console)

@@ -5,9 +5,11 @@
 mod answer;
 mod asked;
 mod command;
+mod countable;
 mod databases;
 mod fields;
 mod information;
+mod parts;
 mod verification;
 
 pub use command::show;

@@ -1,11 +1,14 @@
 //! Whether files are whole and all their records can be read, and whether they are what is expected.
+ghost use Rattle.std.specs.Prelude.{IfOk, IfNone};
+ghost use Rattle.mmdb_reader.specs.Whole.{IsWhole, HasReadableRecords};
+
 use json::{Token, Writer};
 use mmdb_arguments::{NoRequest, VerifyArguments};
 use mmdb_console::{Console, DONE, FAILED, Pace, Passed, ProgramError, line_of, note_archive};
 use mmdb_json::write_value;
 use mmdb_layout::{Database, Opened, open_database, open_found, path_or};
 use mmdb_reader::{MaxMindDbError, Metadata, Reader};
-use mmdb_records::unreadable_records;
+use mmdb_records::{TypePattern, is_ahead, reason_of, time_text, unreadable_records};
 use mmdb_value::Value;
 use std::alloc::{AllocError, Global};
 use std::env::Env;
@@ -21,17 +24,8 @@ struct MostAge {
     days: u64,
     /// When it may be built first, in seconds since 1970.
     since: u64,
-}
-
-/// The database types that are wanted: those that are a name, or end, begin or go on with it.
-#[derive(Clone, Copy)]
-struct TypePattern<'a> {
-    /// As it is given, with a `*` or more at an end for any text there.
-    text: &'a str,
-    /// Without them.
-    name: &'a str,
-    is_open_before: bool,
-    is_open_behind: bool,
+    /// What time it is.
+    now: u64,
 }
 
 /// What `verify` is asked for.
@@ -77,34 +71,34 @@ fn most_age_of<R: Clock>(rt: &R, alloc: Global, text: &str) -> Result<MostAge, P
     Ok(MostAge {
         days,
         since: now.saturating_sub(days.saturating_mul(SECONDS_OF_A_DAY)),
+        now,
     })
 }
 
 // The pattern of a text. An `Err` where a `*` is inside.
 fn pattern_of<'a>(alloc: Global, text: &'a str) -> Result<TypePattern<'a>, NoRequest> {
-    let pattern = TypePattern {
-        text,
-        name: text.trim_matches('*'),
-        is_open_before: text.starts_with('*'),
-        is_open_behind: text.ends_with('*'),
-    };
-    if pattern.name.contains('*') {
-        let wanted = "a * inside, and not at an end";
-        return Err(NoRequest::bad_argument(alloc, "--database-type", wanted));
-    }
-    Ok(pattern)
-}
-
-impl TypePattern<'_> {
-    // Whether a database type is as asked for.
-    fn fits(self, database_type: &str) -> bool {
-        match (self.is_open_before, self.is_open_behind) {
-            (true, true) => database_type.contains(self.name),
-            (true, false) => database_type.ends_with(self.name),
-            (false, true) => database_type.starts_with(self.name),
-            (false, false) => database_type == self.name,
+    match TypePattern::of(text) {
+        Some(pattern) => Ok(pattern),
+        None => {
+            let wanted = "a * inside, and not at an end";
+            Err(NoRequest::bad_argument(alloc, "--database-type", wanted))
         }
     }
+}
+
+// Why a database of a time is too old, or from a day that is to come, if it is.
+fn against_age(alloc: Global, built: u64, most: MostAge) -> Result<Option<String>, AllocError> {
+    let MostAge { days, since, now } = most;
+    if built >= since && !is_ahead(built, now) {
+        return Ok(None);
+    }
+    let time = time_text(alloc, built)?;
+    let text: String = if built < since {
+        format!(in alloc; "it was built at {time}, more than {days} days ago")?
+    } else {
+        format!(in alloc; "it was built at {time}, more than a day ahead")?
+    };
+    Ok(Some(text))
 }
 
 // What is not as expected of a whole database, if something is.
@@ -123,22 +117,23 @@ fn unexpected(
     if let Some(after) = task.after
         && built <= after
     {
+        let (built, after) = (time_text(alloc, built)?, time_text(alloc, after)?);
         return Ok(Some(format!(in alloc; "it was built at {built}, not after {after}")?));
     }
-    if let Some(MostAge { days, since }) = task.most_age
-        && built < since
-    {
-        return Ok(Some(format!(in alloc; "it was built at {built}, more than {days} days ago")?));
+    match task.most_age {
+        Some(most) => against_age(alloc, built, most),
+        None => Ok(None),
     }
-    Ok(None)
 }
 
 // Why a database is not whole, if it is not.
-fn not_whole(alloc: Global, reader: &Reader<Vec<u8>>) -> Result<Option<String>, AllocError> {
+fn not_whole(alloc: Global, reader: &Reader<Vec<u8>>) -> Result<Option<String>, AllocError>
+    ensures { IfOk result (λ reason. IfNone reason (IsWhole reader.now)) }
+{
     match reader.verify(alloc) {
         Ok(()) => Ok(None),
         Err(error) => {
-            let text: Result<String, AllocError> = format!(in alloc; "{error}");
+            let text = reason_of(alloc, &error);
             drop(error);
             Ok(Some(text?))
         }
@@ -150,7 +145,10 @@ fn not_readable(
     alloc: Global,
     reader: &Reader<Vec<u8>>,
     unreadable: &mut Option<u64>,
-) -> Result<Option<String>, AllocError> {
+) -> Result<Option<String>, AllocError>
+    ensures whole { IfOk result (λ reason. IfNone reason (IsWhole reader.now)) }
+    ensures readable { IfOk result (λ reason. IfNone reason (HasReadableRecords reader.now)) }
+{
     match unreadable_records(alloc, reader) {
         Ok(None) => {
             *unreadable = Some(0);
@@ -166,7 +164,7 @@ fn not_readable(
             Ok(Some(text?))
         }
         Err(error) => {
-            let text: Result<String, AllocError> = format!(in alloc; "{error}");
+            let text = reason_of(alloc, &error);
             drop(error);
             Ok(Some(text?))
         }

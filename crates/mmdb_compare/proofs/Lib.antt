@@ -3,7 +3,9 @@ mod ComingLaws
 mod WalkLaws
 mod PartLaws
 mod TogetherLaws
+mod FoundLaws
 mod ListedLaws
+mod AgreeLaws
 mod Placing
 mod Same
 mod Known

@@ -26,7 +26,7 @@ use Rattle.mmdb_compare.proofs.BlockLaws.{block_is}
 use Rattle.mmdb_compare.proofs.ComingLaws.{stays}
 
 -- the zero bits before an address of IPv4 are 96
-zeros_before : (ipv6 : Bool) (bits : List Bool) → zero_bits (128 - (if ipv6 then 128 else 32)) ++ (zero_bits (if ipv6 then 96 else 0) ++ bits) ≡ zero_bits 96 ++ bits
+pub zeros_before : (ipv6 : Bool) (bits : List Bool) → zero_bits (128 - (if ipv6 then 128 else 32)) ++ (zero_bits (if ipv6 then 96 else 0) ++ bits) ≡ zero_bits 96 ++ bits
 unfolding zero_bits
 zeros_before true bits = refl
 zeros_before false bits = refl

@@ -21,7 +21,7 @@ use Rattle.mmdb_compare.specs.Coming.Answer.{Record, Nothing, Unknown}
 use Rattle.mmdb_compare.specs.Parts.{start_of, IsPast}
 use Rattle.mmdb_compare.specs.Walks.{Standing, left_at, left_of, IsFromAt, IsFrom, IsMet, IsGone, IsHere, IsSaid, last_here, is_record_here}
 use Rattle.mmdb_compare.specs.Together.{Abreast, answers_at, all_from, is_readable, is_known, is_record, are_shown, ArePassed, ArePassedTo, IsNextBlock, IsPastOf, IsNextUnreadOf}
-use Rattle.mmdb_compare.specs.WalkList.{left_from, said_at, all_said, held_by, held_at, AllGone, IsMetOf, AreHere, AreReached, GoneUpTo, is_known_here, abreast}
+use Rattle.mmdb_compare.specs.WalkList.{left_from, said_at, all_said, held_by, held_at, AllGone, IsMetOf, AreHere, AreReached, GoneUpTo, is_known_here, abreast, databases_of}
 use Rattle.mmdb_compare.proofs.ComingLaws.{stays, once_more, same_answer, answer_inside, answer_before}
 use Rattle.mmdb_compare.proofs.ListedLaws.{from_first}
 use Rattle.mmdb_compare.proofs.PartLaws.{past}
@@ -170,8 +170,14 @@ more_here walks s place at all result here a h lt is last known some =
 gone_same : (at : ℕ) (s t : Standing) → IsGone at s t → left_from at t ≡ left_from at s
 gone_same at s t gone = from_stays at t gone.«from» ∙ gone.left
 
-pub gone_more : (before walks : List Standing) (s t : Standing) (place at : ℕ) → GoneUpTo place at before walks → place < length walks → s ≡ get_or walks place s → IsGone at s t → GoneUpTo (place + 1) at before (set walks place t)
-gone_more before walks s t place at g lt is gone = record {
+-- one of the walks goes on, of the same database
+pub same_databases : (before walks : List Standing) (s t : Standing) (place : ℕ) → databases_of walks ≡ databases_of before → s ≡ get_or walks place s → t.database ≡ s.database → databases_of (set walks place t) ≡ databases_of before
+same_databases before walks s t place same is kept =
+    map-set_same (λ (x : Standing). x.database) walks place t s (kept ∙ ap (λ (x : Standing). x.database) is) ∙ same
+
+pub gone_more : (before walks : List Standing) (s t : Standing) (place at : ℕ) → GoneUpTo place at before walks → place < length walks → s ≡ get_or walks place s → IsGone at s t → t.database ≡ s.database → GoneUpTo (place + 1) at before (set walks place t)
+gone_more before walks s t place at g lt is gone kept = record {
+  databases = same_databases before walks s t place g.databases is kept;
   left = map-set_same (left_from at) walks place t s (gone_same at s t gone ∙ ap (left_from at) is) ∙ g.left;
   stand = subst (All (IsFrom at)) (sym (take_more_set walks place t lt)) (All-push (IsFrom at) (take place walks) t g.stand gone.«from»);
 }
@@ -207,11 +213,12 @@ all_start at shown_at walks = record {
   behind = omega arith;
   skipped = λ address from to. absurd (omega (arith, from, to));
   left = sym (walks_on (start_of at) (start_of at) walks (omega arith));
+  databases = refl;
 }
 
 -- where all walks go on to the address, the same is left
-pub all_gone : (before : Abreast) (at shown_at : ℕ) (walks gone : List Standing) → AreReached before (abreast (Some at) shown_at walks) → AllGone at walks gone → AreReached before (abreast (Some at) shown_at gone)
-all_gone before at shown_at walks gone r g = record { behind = r.behind; skipped = r.skipped; left = g.left ∙ r.left }
+pub all_gone : (before : Abreast) (at shown_at : ℕ) (walks gone : List Standing) → AreReached before (abreast (Some at) shown_at walks) → AllGone at walks gone → databases_of gone ≡ databases_of walks → AreReached before (abreast (Some at) shown_at gone)
+all_gone before at shown_at walks gone r g same = record { behind = r.behind; skipped = r.skipped; left = g.left ∙ r.left; databases = same ∙ r.databases }
 
 -- where addresses are passed
 hidden_at : (answers said : List Answer) (here : AllHere) → answers ≡ said → list_all is_readable said ≡ true → here.is_known ≡ list_all is_known said → here.has_record ≡ list_any is_record said → (here.is_known && here.has_record) ≡ false → ArePassed answers
@@ -230,6 +237,7 @@ all_passed before at shown_at next walks here r h hidden e = record {
         hidden_at (answers_at address before.left) (all_said at walks) here same h.readable h.known h.some hidden)
   ];
   left = left_on at (start_of next) walks before.left (omega (arith, h.within, e)) r.left;
+  databases = r.databases;
 }
 
 -- where a block is handed out

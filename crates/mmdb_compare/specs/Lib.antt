@@ -3,6 +3,8 @@ pub mod Coming
 pub mod Listed
 pub mod Parts
 pub mod Together
+pub mod Found
+pub mod Agreeing
 pub mod Same
 pub mod Kept
 -- What only contracts of private functions and proofs name.

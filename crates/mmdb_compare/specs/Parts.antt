@@ -81,6 +81,11 @@ pub record IsOver (before after : Comparing) : Type 0 where
   pub skipped : IsSkippedTo (2 ^ 128) before
   pub at : after.at ≡ 2 ^ 128
 
+-- it is of the same databases
+pub record AreSameDatabases (before after : Comparing) : Type 0 where
+  pub old : after.old_database ≡ before.old_database
+  pub new : after.new_database ≡ before.new_database
+
 -- no part was handed out, and none is left out
 pub record IsSameLeft (before after : Comparing) : Type 0 where
   pub at : after.at ≡ before.at

@@ -3,15 +3,17 @@ use Rattle.std.specs.Prelude.{ℕ, ◌^◌, ◌<◌, ◌≤◌, ◌≡◌, Bool,
 use Rattle.std.specs.List.{list_all, list_any}
 use Rattle.mmdb_blocks.specs.declared.block.Block.{Block}
 use Rattle.mmdb_blocks.specs.Blocks.{IsBlock, IsWithin, end}
+use Rattle.mmdb_reader.specs.File.{Database}
 use Rattle.mmdb_compare.specs.Coming.{Coming, Answer, coming_from, answer_at}
 use Rattle.mmdb_compare.specs.Coming.Answer.{Record, Nothing, Unknown, Unreadable}
 use Rattle.mmdb_compare.specs.Parts.{IsPast}
 use Rattle.mmdb_compare.specs.declared.together.TogetherPart.{TogetherPart}
 use Rattle.mmdb_compare.specs.declared.together.TogetherPart.TheVariants.{Stretch as StretchPart, Unread as UnreadPart}
 
--- Databases: the address up to which all was handed out, or 2 ^ 128 where that is each address; what is left to come of each
+-- Databases, side by side: which they are; the address up to which all was handed out, or 2 ^ 128 where that is each address; what is left to come of each
 -- database from there on; and what each has in the last stretch that was handed out.
 pub record Abreast : Type 0 where
+  pub databases : List Database
   pub at : ℕ
   pub left : List Coming
   pub answers : List Answer

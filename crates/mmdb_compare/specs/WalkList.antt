@@ -2,6 +2,7 @@
 use Rattle.std.specs.Prelude.{◌≡◌, ℕ, ◌^◌, ◌<◌, ◌≤◌, ◌&&◌, Bool, true, false, List, length, map, get_or, set, take, Option, if◌then◌else◌, nat_lt}
 use Rattle.std.specs.List.{list_all, list_any, All}
 use Rattle.mmdb_blocks.specs.declared.block.Block.{Block}
+use Rattle.mmdb_reader.specs.File.{Database}
 use Rattle.mmdb_compare.specs.declared.walk.Stand.{Stand}
 use Rattle.mmdb_compare.specs.declared.walk.Stand.TheVariants.{Nowhere, AtNetwork, AtEnd}
 use Rattle.mmdb_compare.specs.declared.walk.Here.{Here}
@@ -17,6 +18,10 @@ abbrev pub is_known_here : Here → Bool
 is_known_here (RecordHere last) = true
 is_known_here (NothingHere last) = true
 is_known_here (UnknownHere last) = false
+
+-- the databases of walks
+abbrev pub databases_of : List Standing → List Database
+databases_of walks = map (λ s. s.database) walks
 
 -- what is left of a walk from an address on
 abbrev pub left_from : ℕ → Standing → Coming
@@ -63,6 +68,7 @@ pub record AreHere (walks : List Standing) (at : ℕ) (here : AllHere) : Type 0 
 
 abbrev pub abreast : Option ℕ → ℕ → List Standing → Abreast
 abreast at shown_at walks = record {
+  databases = databases_of walks;
   at = start_of at;
   left = map (left_from (start_of at)) walks;
   answers = map (held_at shown_at) walks;
@@ -73,8 +79,10 @@ pub record AreReached (before after : Abreast) : Type 0 where
   pub behind : before.at ≤ after.at
   pub skipped : ArePassedTo after.at before
   pub left : after.left ≡ all_from after.at before.left
+  pub databases : after.databases ≡ before.databases
 
 -- The walks before a place went on to an address, and nothing is left out of any.
 pub record GoneUpTo (place at : ℕ) (before after : List Standing) : Type 0 where
+  pub databases : databases_of after ≡ databases_of before
   pub left : map (left_from at) after ≡ map (left_from at) before
   pub stand : All (IsFrom at) (take place after)

@@ -2,6 +2,7 @@
 use Rattle.std.specs.Prelude.{◌≡◌, ℕ, ◌+◌, ◌*◌, ◌^◌, length, ◌<◌, ◌≤◌, ◌⊎◌, Bool, true, false, List, [], ◌∷◌, ◌||◌, Option}
 use Rattle.mmdb_blocks.specs.declared.block.Block.{Block}
 use Rattle.mmdb_blocks.specs.Blocks.{IsBlock, end}
+use Rattle.mmdb_reader.specs.File.{Database}
 use Rattle.mmdb_compare.specs.declared.walk.Stand.{Stand}
 use Rattle.mmdb_compare.specs.declared.walk.Stand.TheVariants.{Nowhere, AtNetwork, AtEnd}
 use Rattle.mmdb_compare.specs.declared.walk.Here.{Here}
@@ -13,20 +14,21 @@ use Rattle.mmdb_compare.specs.declared.comparison.Side.TheVariants.{Old, New}
 use Rattle.mmdb_compare.specs.Coming.{Leaf, Coming, Comparing, Answer, coming, coming_from, answer_at}
 use Rattle.mmdb_compare.specs.Coming.Leaf.{Network, Unread}
 use Rattle.mmdb_compare.specs.Coming.Answer.{Record, Nothing, Unknown}
-use Rattle.mmdb_compare.specs.Parts.{start_of, IsAnswered, IsSkipped, IsSkippedTo}
+use Rattle.mmdb_compare.specs.Parts.{start_of, IsAnswered, IsSkipped, IsSkippedTo, AreSameDatabases}
 
--- A walk: where it is, the block and the offset of the network that it is at, the leaves after it, and whether it
+-- A walk: its database, where it is, the block and the offset of the network that it is at, the leaves after it, and whether it
 -- is not known what comes before the network.
 pub record Standing : Type 0 where
+  pub database : Database
   pub stand : Stand
   pub block : Block
   pub offset : Option ℕ
   pub leaves : List Leaf
   pub is_unknown : Bool
 
-abbrev pub standing : Stand → ℕ → ℕ → Option ℕ → List Leaf → Bool → Standing
-standing stand first prefix offset leaves is_unknown =
-    record { stand = stand; block = record { first = first; prefix = prefix }; offset = offset; leaves = leaves; is_unknown = is_unknown }
+abbrev pub standing : Database → Stand → ℕ → ℕ → Option ℕ → List Leaf → Bool → Standing
+standing database stand first prefix offset leaves is_unknown =
+    record { database = database; stand = stand; block = record { first = first; prefix = prefix }; offset = offset; leaves = leaves; is_unknown = is_unknown }
 
 -- what comes with the network that it is at
 abbrev pub left_at : Stand → Block → Option ℕ → List Leaf → Bool → Coming
@@ -201,6 +203,8 @@ pub record IsShared (old new : Standing) (at : ℕ) (block : Block) : Type 0 whe
 
 abbrev pub comparing : Option ℕ → Standing → Standing → Comparing
 comparing at old new = record {
+  old_database = old.database;
+  new_database = new.database;
   at = start_of at;
   old = coming_from (start_of at) (left_of old);
   new = coming_from (start_of at) (left_of new);
@@ -223,3 +227,4 @@ pub record IsReached (before after : Comparing) : Type 0 where
 pub record IsOnWay (before after : Comparing) (are_even : Bool) : Type 0 where
   pub reached : IsReached before after
   pub is_odd : are_even ≡ false
+  pub databases : AreSameDatabases before after

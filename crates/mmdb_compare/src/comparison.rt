@@ -1,9 +1,12 @@
 //! Two databases side by side.
 ghost use Rattle.std.specs.Prelude.{Option, MatchOption, IfOk, ◌≡◌, ◌+◌, if◌then◌else◌};
 ghost use Rattle.mmdb_blocks.specs.Blocks.{IsBlock, end};
+ghost use Rattle.mmdb_net.specs.Network.{ip_of};
+ghost use Rattle.mmdb_reader.specs.Lookup.{CanAsk};
 ghost use Rattle.mmdb_compare.specs.Coming.{coming_from};
+ghost use Rattle.mmdb_compare.specs.Found.{numbered_ip, IsFoundIf};
 ghost use Rattle.mmdb_compare.specs.Listed.{all_of};
-ghost use Rattle.mmdb_compare.specs.Parts.{IsNextPart, IsOver, IsSameLeft, IsBegun, start_of};
+ghost use Rattle.mmdb_compare.specs.Parts.{IsNextPart, IsOver, IsSameLeft, AreSameDatabases, IsBegun, start_of};
 
 use crate::walk::{UnreadLeaf, Walk};
 use crate::walks::{BothAt, Walks};
@@ -86,8 +89,12 @@ impl<'a, S: AsSlice<u8> + Drop> Comparison<'a, S> {
         new: &'a Reader<S>,
         range: IpNetwork,
     ) -> Result<Comparison<'a, S>, (Side, MaxMindDbError)>
-        ensures { IfOk result
+        ensures begun { IfOk result
             (λ comparison. IsBegun (all_of old.now range) (all_of new.now range) comparison) }
+        ensures old { IfOk result (λ comparison. comparison.old_database ≡ old.now) }
+        ensures new { IfOk result (λ comparison. comparison.new_database ≡ new.now) }
+        ensures asked { IfOk result
+            (λ _. CanAsk old.now (ip_of range) × CanAsk new.now (ip_of range)) }
     {
         let old = match Walk::new(alloc, old, range) {
             Ok(walk) => walk,
@@ -108,8 +115,9 @@ impl<'a, S: AsSlice<u8> + Drop> Comparison<'a, S> {
     // in fewer steps than any other part.
     #[inline(always)]
     fn next_shared(&mut self) -> Option<ComparisonPart>
-        ensures { MatchOption result (IsSameLeft self.entry.now self.exit.now)
+        ensures next { MatchOption result (IsSameLeft self.entry.now self.exit.now)
             (λ part. IsNextPart self.entry.now self.exit.now part) }
+        ensures databases { AreSameDatabases self.entry.now self.exit.now }
     {
         if !self.are_even {
             return None;
@@ -129,8 +137,9 @@ impl<'a, S: AsSlice<u8> + Drop> Comparison<'a, S> {
     // The next part, address by address.
     #[inline(never)]
     fn next_apart(&mut self) -> Option<ComparisonPart>
-        ensures { MatchOption result (IsOver self.entry.now self.exit.now)
+        ensures next { MatchOption result (IsOver self.entry.now self.exit.now)
             (λ part. IsNextPart self.entry.now self.exit.now part) }
+        ensures databases { AreSameDatabases self.entry.now self.exit.now }
     {
         self.are_even = false;
         while let Some(at) = self.at {
@@ -159,8 +168,9 @@ impl<'a, S: AsSlice<u8> + Drop> Comparison<'a, S> {
     /// The next part. A stretch begins where the one before ends, or later. None where all is compared.
     #[inline(always)]
     pub fn next_part(&mut self) -> Option<ComparisonPart>
-        ensures { MatchOption result (IsOver self.entry.now self.exit.now)
+        ensures next { MatchOption result (IsOver self.entry.now self.exit.now)
             (λ part. IsNextPart self.entry.now self.exit.now part) }
+        ensures databases { AreSameDatabases self.entry.now self.exit.now }
     {
         match self.next_shared() {
             Some(part) => Some(part),
@@ -202,23 +212,25 @@ impl<'a, S: AsSlice<u8> + Drop> Comparison<'a, S> {
         }
     }
 
-    /// What the old database has in a stretch, if it has a record there.
-    pub fn found_in_old(&self, stretch: Stretch) -> Option<LookupResult<'a, S>> {
+    /// What the old database has in a stretch, if it has a record there: what a lookup of its first address finds.
+    pub fn found_in_old(&self, stretch: Stretch) -> Option<LookupResult<'a, S>>
+        ensures { let address = numbered_ip stretch.block.first in
+            IsFoundIf stretch.has_old self.now.old_database address result }
+    {
         if stretch.has_old {
-            self.walks
-                .old
-                .found_at(stretch.block.first, stretch.is_ipv4)
+            self.walks.old.found_at(stretch.block.first)
         } else {
             None
         }
     }
 
-    /// What the new database has in a stretch, if it has a record there.
-    pub fn found_in_new(&self, stretch: Stretch) -> Option<LookupResult<'a, S>> {
+    /// What the new database has in a stretch, if it has a record there: what a lookup of its first address finds.
+    pub fn found_in_new(&self, stretch: Stretch) -> Option<LookupResult<'a, S>>
+        ensures { let address = numbered_ip stretch.block.first in
+            IsFoundIf stretch.has_new self.now.new_database address result }
+    {
         if stretch.has_new {
-            self.walks
-                .new
-                .found_at(stretch.block.first, stretch.is_ipv4)
+            self.walks.new.found_at(stretch.block.first)
         } else {
             None
         }

@@ -5,6 +5,7 @@
 mod comparison;
 mod contents;
 mod equality;
+pub mod laws;
 mod pairs;
 mod place;
 mod shown;

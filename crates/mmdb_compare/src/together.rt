@@ -2,6 +2,7 @@
 ghost use Rattle.std.specs.Prelude.{MatchOption, IfOk, ◌≡◌, map};
 ghost use Rattle.mmdb_compare.specs.Listed.{all_of};
 ghost use Rattle.mmdb_compare.specs.Parts.{start_of};
+ghost use Rattle.mmdb_compare.specs.Found.{numbered_ip, AreFoundAt};
 ghost use Rattle.mmdb_compare.specs.Together.{IsNextOfAll, AreOver, AreBegun, offset_in};
 
 use crate::comparison::{behind, next_to};
@@ -64,8 +65,10 @@ impl<'a, S: AsSlice<u8> + Drop> Together<'a, S> {
         alloc: Global,
         databases: &[AskedDatabase<'a, S>],
     ) -> Result<Together<'a, S>, (usize, MaxMindDbError)>
-        ensures { IfOk result (λ together.
+        ensures begun { IfOk result (λ together.
             AreBegun (map (λ d. all_of d.reader.now d.range) databases.now) together) }
+        ensures databases { IfOk result (λ together.
+            together.databases ≡ map (λ d. d.reader.now) databases.now) }
     {
         Ok(Together {
             list: WalkList::new(alloc, databases)?,
@@ -77,8 +80,9 @@ impl<'a, S: AsSlice<u8> + Drop> Together<'a, S> {
 
     /// The next part. A stretch begins where the one before ends, or later. None where all is handed out.
     pub fn next_part(&mut self) -> Option<TogetherPart>
-        ensures { MatchOption result (AreOver self.entry.now self.exit.now)
+        ensures next { MatchOption result (AreOver self.entry.now self.exit.now)
             (λ part. IsNextOfAll self.entry.now self.exit.now part) }
+        ensures databases { self.exit.now.databases ≡ self.entry.now.databases }
     {
         while let Some(at) = self.at {
             if let Some(place) = self.list.go_to(at) {
@@ -112,12 +116,17 @@ impl<'a, S: AsSlice<u8> + Drop> Together<'a, S> {
         self.list.offset(place, self.shown_at)
     }
 
-    /// What each database has in the last stretch, in their order: none where it has no record there.
+    /// What each database has in the last stretch, in their order: what a lookup of its first address finds, and none where
+    /// the database has no record there.
     pub fn answers(
         &self,
         alloc: Global,
         stretch: TogetherStretch,
-    ) -> Result<Vec<Option<LookupResult<'a, S>>>, AllocError> {
-        self.list.found(alloc, stretch.block.first, stretch.is_ipv4)
+    ) -> Result<Vec<Option<LookupResult<'a, S>>>, AllocError>
+        ensures { let address = numbered_ip stretch.block.first in
+            IfOk result
+            (λ all. AreFoundAt address self.now.databases self.now.answers all.items) }
+    {
+        self.list.found(alloc, self.shown_at, stretch.block.first)
     }
 }

@@ -1,9 +1,14 @@
 //! The networks of one database.
 ghost use Rattle.std.specs.Prelude.{◌≡◌, ◌+◌, ◌-◌, ◌≤◌, ◌<◌, ◌↔◌, IsTrue, IfOk, MatchBool, true, false};
 ghost use Rattle.mmdb_blocks.specs.Blocks.{IsBlock, end};
+ghost use Rattle.mmdb_net.specs.Network.{ip_of};
 ghost use Rattle.mmdb_reader.specs.Enumeration.{items_to_come, database_walked};
+ghost use Rattle.mmdb_reader.specs.Lookup.{CanAsk};
 ghost use Rattle.mmdb_compare.specs.Coming.{coming, coming_from};
 ghost use Rattle.mmdb_compare.specs.Listed.{all_of, leaves_of_items, block_within as block_in_range};
+ghost use Rattle.mmdb_compare.specs.Found.{numbered_ip, IsFoundAt, IsFoundIf};
+ghost use Rattle.mmdb_compare.specs.Together.{is_record};
+ghost use Rattle.mmdb_compare.specs.WalkList.{held_at};
 ghost use Rattle.mmdb_compare.specs.Walks.{Standing, left_of, behind_of, IsMet, IsTaken, IsFrom, IsBehind, IsGone, IsStanding, IsHere};
 
 use mmdb_blocks::Block;
@@ -63,12 +68,12 @@ impl<'a, S: AsSlice<u8> + Drop> Model for Walk<'a, S> {
 
     ghost Value = { Standing };
 
-    ghost view = { λ w. standing w.stand w.first w.prefix w.offset (leaves_of_items
+    ghost view = { λ w. standing w.reader.now w.stand w.first w.prefix w.offset (leaves_of_items
         (database_walked w.networks) (record { first = w.range_first; prefix = w.range_prefix })
         (items_to_come w.networks)) w.is_unknown };
 
     ghost invariant = { λ w. IsStanding (record { first = w.range_first; prefix = w.range_prefix })
-        (standing w.stand w.first w.prefix w.offset (leaves_of_items (database_walked w.networks)
+        (standing w.reader.now w.stand w.first w.prefix w.offset (leaves_of_items (database_walked w.networks)
         (record { first = w.range_first; prefix = w.range_prefix }) (items_to_come w.networks))
         w.is_unknown) };
 }
@@ -102,6 +107,17 @@ fn block_within(network: NumberedNetwork, range: Block) -> Block
     }
 }
 
+// The address of a number. An IPv6 database has those of IPv4 below 2^32 too, and shows them as they are shown there.
+fn address_of(number: u128) -> IpAddr
+    ensures { result ≡ numbered_ip number }
+{
+    if number < 1 << 32 {
+        IpAddr::V4(Ipv4Addr::from_bits(number as u32))
+    } else {
+        IpAddr::V6(Ipv6Addr::from_bits(number))
+    }
+}
+
 impl<'a, S: AsSlice<u8> + Drop> Walk<'a, S> {
     /// The walk of a range.
     pub(crate) fn new(
@@ -109,7 +125,9 @@ impl<'a, S: AsSlice<u8> + Drop> Walk<'a, S> {
         reader: &'a Reader<S>,
         range: IpNetwork,
     ) -> Result<Walk<'a, S>, MaxMindDbError>
-        ensures { IfOk result (λ walk. left_of walk ≡ all_of reader.now range) }
+        ensures left { IfOk result (λ walk. left_of walk ≡ all_of reader.now range) }
+        ensures database { IfOk result (λ walk. walk.database ≡ reader.now) }
+        ensures asked { IfOk result (λ _. CanAsk reader.now (ip_of range)) }
     {
         let networks = reader.within(alloc, range, WithinOptions::default())?;
         let block = Block::of_network(range);
@@ -149,8 +167,9 @@ impl<'a, S: AsSlice<u8> + Drop> Walk<'a, S> {
     // Takes the next network, or keeps the next leaf, if it can't be read. Whether it can.
     #[inline(always)]
     fn advance(&mut self) -> bool
-        ensures { let before = coming self.old.leaves self.old.is_unknown in
+        ensures step { let before = coming self.old.leaves self.old.is_unknown in
             MatchBool result (IsTaken before self.new) (IsMet before self.new) }
+        ensures database { self.new.database ≡ self.old.database }
     {
         match self.networks.next() {
             Some(Ok(found)) => {
@@ -205,8 +224,9 @@ impl<'a, S: AsSlice<u8> + Drop> Walk<'a, S> {
     /// Goes on from where it is. Says whether the next leaf can be read; `take_unread` has it, if not.
     #[inline(always)]
     pub(crate) fn pass(&mut self) -> bool
-        ensures { let before = behind_of self.old in
+        ensures step { let before = behind_of self.old in
             MatchBool result (IsTaken before self.new) (IsMet before self.new) }
+        ensures database { self.new.database ≡ self.old.database }
     {
         if matches!(self.stand, Stand::AtNetwork) {
             self.is_unknown = false;
@@ -218,8 +238,9 @@ impl<'a, S: AsSlice<u8> + Drop> Walk<'a, S> {
     /// `take_unread` has the one that can't.
     #[inline(always)]
     pub(crate) fn go_to(&mut self, at: u128) -> bool
-        ensures { MatchBool result (IsGone at self.old self.new)
+        ensures step { MatchBool result (IsGone at self.old self.new)
             (IsMet (coming_from at (left_of self.old)) self.new) }
+        ensures database { self.new.database ≡ self.old.database }
     {
         while self.is_behind(at) {
             if !self.pass() {
@@ -308,20 +329,29 @@ impl<'a, S: AsSlice<u8> + Drop> Walk<'a, S> {
     }
 
     /// What the database has for an address.
-    pub(crate) fn found_at(&self, address: u128, is_ipv4: bool) -> Option<LookupResult<'a, S>> {
-        let address = if is_ipv4 {
-            IpAddr::V4(Ipv4Addr::from_bits((address % (1 << 32)) as u32))
-        } else {
-            IpAddr::V6(Ipv6Addr::from_bits(address))
-        };
+    pub(crate) fn found_at(&self, address: u128) -> Option<LookupResult<'a, S>>
+        ensures { IsFoundAt self.now.database (numbered_ip address) result }
+    {
         let reader = self.reader;
-        reader.lookup(address).ok()
+        reader.lookup(address_of(address)).ok()
+    }
+
+    /// What the database has for an address, if it has a record for another one, which it went on to.
+    pub(crate) fn found_from(&self, at: u128, address: u128) -> Option<LookupResult<'a, S>>
+        ensures { let has_record = is_record (held_at at self.now) in
+            IsFoundIf has_record self.now.database (numbered_ip address) result }
+    {
+        if self.has_begun(at) {
+            self.found_at(address)
+        } else {
+            None
+        }
     }
 
     // What the database has for the network that it is at.
     fn found(&self) -> Option<LookupResult<'a, S>> {
         match self.stand {
-            Stand::AtNetwork => self.found_at(self.first, self.is_ipv4),
+            Stand::AtNetwork => self.found_at(self.first),
             Stand::Nowhere | Stand::AtEnd => None,
         }
     }

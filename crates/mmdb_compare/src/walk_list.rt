@@ -4,7 +4,8 @@ ghost use Rattle.std.specs.List.{All};
 ghost use Rattle.mmdb_compare.specs.Listed.{all_of};
 ghost use Rattle.mmdb_compare.specs.Walks.{left_of, IsFrom, last_here, is_record_here};
 ghost use Rattle.mmdb_compare.specs.Together.{offset_in};
-ghost use Rattle.mmdb_compare.specs.WalkList.{AllGone, IsMetOf, AreHere, is_known_here, held_at};
+ghost use Rattle.mmdb_compare.specs.Found.{numbered_ip, AreFoundAt};
+ghost use Rattle.mmdb_compare.specs.WalkList.{databases_of, AllGone, IsMetOf, AreHere, is_known_here, held_at};
 
 use crate::walk::{Here, UnreadLeaf, Walk};
 use mmdb_reader::{IpNetwork, LookupResult, MaxMindDbError, Reader};
@@ -66,8 +67,10 @@ impl<'a, S: AsSlice<u8> + Drop> WalkList<'a, S> {
         alloc: Global,
         databases: &[AskedDatabase<'a, S>],
     ) -> Result<WalkList<'a, S>, (usize, MaxMindDbError)>
-        ensures { IfOk result (λ list.
+        ensures left { IfOk result (λ list.
             map left_of list.walks.items ≡ map (λ d. all_of d.reader.now d.range) databases.now) }
+        ensures databases { IfOk result (λ list.
+            databases_of list.walks.items ≡ map (λ d. d.reader.now) databases.now) }
     {
         let mut walks = Vec::new(alloc);
         for place in 0..databases.len() {
@@ -85,7 +88,9 @@ impl<'a, S: AsSlice<u8> + Drop> WalkList<'a, S> {
 
     /// Goes on to an address in all, or names the place of a leaf that can't be read.
     pub(crate) fn go_to(&mut self, at: u128) -> Option<usize>
-        ensures { MatchOption result
+        ensures databases { let before = self.entry.now.walks.items in
+            databases_of self.exit.now.walks.items ≡ databases_of before }
+        ensures step { MatchOption result
             (AllGone at self.entry.now.walks.items self.exit.now.walks.items)
             (λ place. IsMetOf place at self.entry.now.walks.items self.exit.now.walks.items) }
     {
@@ -140,21 +145,21 @@ impl<'a, S: AsSlice<u8> + Drop> WalkList<'a, S> {
         }
     }
 
-    /// What each has for an address that it went on to: none where it has no record there.
+    /// What each has for an address: none where it has no record for another one, which it went on to.
     pub(crate) fn found(
         &self,
         alloc: Global,
         at: u128,
-        is_ipv4: bool,
-    ) -> Result<Vec<Option<LookupResult<'a, S>>>, AllocError> {
+        address: u128,
+    ) -> Result<Vec<Option<LookupResult<'a, S>>>, AllocError>
+        ensures { let walks = self.now.walks.items in
+            let held = map (held_at at) walks in
+            IfOk result (λ all.
+            AreFoundAt (numbered_ip address) (databases_of walks) held all.items) }
+    {
         let mut all = Vec::with_capacity(alloc, self.walks.len())?;
         for walk in &self.walks {
-            let found = if walk.has_begun(at) {
-                walk.found_at(at, is_ipv4)
-            } else {
-                None
-            };
-            all.push(found)?;
+            all.push(walk.found_from(at, address))?;
         }
         Ok(all)
     }

@@ -57,7 +57,9 @@ impl<'a, S: AsSlice<u8> + Drop> Walks<'a, S> {
     /// Goes on to an address in both, or names the side of a leaf that can't be read.
     #[inline(always)]
     pub(crate) fn go_to(&mut self, at: u128) -> Option<Side>
-        ensures { MatchOption result
+        ensures old_database { self.exit.now.old.database ≡ self.entry.now.old.database }
+        ensures new_database { self.exit.now.new.database ≡ self.entry.now.new.database }
+        ensures step { MatchOption result
             (AreGone at self.entry.now.old self.entry.now.new self.exit.now.old self.exit.now.new)
             (λ side. IsMetIn side at self.entry.now.old self.entry.now.new self.exit.now.old
             self.exit.now.new) }
@@ -117,7 +119,9 @@ impl<'a, S: AsSlice<u8> + Drop> Walks<'a, S> {
     /// Goes on from where both are, or names the side of a leaf that can't be read.
     #[inline(always)]
     pub(crate) fn go_on(&mut self) -> Option<Side>
-        ensures { MatchOption result
+        ensures old_database { self.exit.now.old.database ≡ self.entry.now.old.database }
+        ensures new_database { self.exit.now.new.database ≡ self.entry.now.new.database }
+        ensures step { MatchOption result
             (AreTaken self.entry.now.old self.entry.now.new self.exit.now.old self.exit.now.new)
             (λ side. IsMetOn side self.entry.now.old self.entry.now.new self.exit.now.old
             self.exit.now.new) }

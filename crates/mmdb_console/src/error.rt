@@ -45,10 +45,9 @@ impl ProgramError {
         }
     }
 
-    /// The standard stream that it is of, if it is of one and not of a file.
+    /// The standard stream that it is of, if it is of the input and not of a file.
     pub fn stream(&self) -> Option<&'static str> {
         match self {
-            ProgramError::Write(_) => Some("standard output"),
             ProgramError::Read(_) | ProgramError::NoColumn { .. } | ProgramError::LongHeader => {
                 Some("standard input")
             }

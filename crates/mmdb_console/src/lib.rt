@@ -10,6 +10,7 @@ mod paths;
 mod place;
 mod progress;
 mod ranges;
+mod replaced;
 mod similar;
 
 pub use archive::{Archive, note_archive};
@@ -23,4 +24,5 @@ pub use paths::{path_of, path_with_index, path_with_key, paths_of, wanted_path};
 pub use place::Where;
 pub use progress::{Pace, Paced, Passed, ProgressLine, text_of_progress};
 pub use ranges::{note_range, range_of};
+pub use replaced::{note_remarks, report_replace};
 pub use similar::Similar;

@@ -4,6 +4,7 @@ use crate::error::ProgramError;
 use crate::progress::{Pace, Passed, show, take_away};
 use mmdb_arguments::shown_text;
 use mmdb_format::error::MaxMindDbError;
+use mmdb_main::FAILED;
 use std::alloc::{AllocError, Global};
 use std::fmt::Display;
 use std::io::{self, BufRead, Write};
@@ -41,6 +42,10 @@ pub struct Console<'c, O: Write, E: Write> {
     pub terminals: Terminals,
     pub out: &'c mut O,
     pub errors: &'c mut E,
+    /// What reports call the output.
+    pub output_name: &'c str,
+    /// Whether all rows of an input came out, whatever errors they had.
+    pub rows_are_whole: bool,
     /// Whether a database that was found elsewhere is named.
     pub names_found: bool,
     /// Whether a terminal shows how far it is.
@@ -82,6 +87,8 @@ impl<'c, O: Write, E: Write> Console<'c, O, E> {
             terminals,
             out,
             errors,
+            output_name: "standard output",
+            rows_are_whole: false,
             names_found: true,
             is_progress_shown: false,
         }
@@ -142,8 +149,25 @@ impl<'c, O: Write, E: Write> Console<'c, O, E> {
     /// Reports an error that ends the program, with the standard stream that it is of, or else with a file. Of an output that
     /// was closed nothing is reported.
     pub fn report_last(&mut self, of: &str, error: &ProgramError) {
-        if !is_closed(error) {
-            self.report(error.stream().unwrap_or(of), error);
+        if is_closed(error) {
+            return;
+        }
+        let of = match error {
+            ProgramError::Write(_) => self.output_name,
+            _ => error.stream().unwrap_or(of),
+        };
+        self.report(of, error);
+    }
+
+    /// The status after all is written: that of what was done, or where the rest can't be written, which is reported, `FAILED`.
+    pub fn end(&mut self, status: u8) -> u8 {
+        match self.flush() {
+            Ok(()) => status,
+            Err(error) => {
+                self.report_last("", &error);
+                drop(error);
+                FAILED
+            }
         }
     }
 }

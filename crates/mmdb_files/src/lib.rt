@@ -2,8 +2,12 @@
 #![tactic(auto)]
 
 mod beside;
+mod error;
 mod replace;
+mod shared;
 mod standing;
 
-pub use replace::{MadeFile, make_file, replace_file};
-pub use standing::{Standing, standing_of};
+pub use error::ReplaceError;
+pub use replace::{PendingFile, begin_file};
+pub use shared::{Owner, SharedFiles};
+pub use standing::{Standing, plain_standing_of, standing_of};

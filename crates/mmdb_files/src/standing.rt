@@ -60,15 +60,23 @@ fn kind_of_file<R: Files>(rt: &R, alloc: Global, path: &str) -> io::Result<Stand
     }
 }
 
-/// What is at a path. Of a file no more than the last 131,072 bytes are read, and what is no file is not opened.
-pub fn standing_of<R: Files>(rt: &R, alloc: Global, path: &str) -> io::Result<Standing> {
+/// What is at a path, where a file is another one whatever it has: nothing is opened.
+pub fn plain_standing_of<R: Files>(rt: &R, path: &str) -> io::Result<Standing> {
     if path.is_empty() || path.ends_with('/') {
         return Ok(Standing::NoFile);
     }
     match rt.metadata(path) {
-        Ok(found) if found.is_file() => kind_of_file(rt, alloc, path),
+        Ok(found) if found.is_file() => Ok(Standing::Other),
         Ok(_) => Ok(Standing::NoFile),
         Err(error) if is_missing(&error) => nothing_at(rt, path),
         Err(error) => Err(error),
+    }
+}
+
+/// What is at a path. Of a file no more than the last 131,072 bytes are read, and what is no file is not opened.
+pub fn standing_of<R: Files>(rt: &R, alloc: Global, path: &str) -> io::Result<Standing> {
+    match plain_standing_of(rt, path)? {
+        Standing::Other => kind_of_file(rt, alloc, path),
+        standing => Ok(standing),
     }
 }

@@ -48,28 +48,29 @@ refilled rows Adds (Some all) (Some xs) (Some ys) old now new ready rest before 
     )
 
 -- what is seen of a chunk is seen of the row
-pub seen_whole : (rows : Rows) (position : RowPosition) (chunk ys : List ℕ) → (position ≢ Ended → length chunk < 65539 → ys ≡ [])
-    → (seen_of (chunk ++ row_from rows position ys) ≡ seen_of chunk) × (is_long (chunk ++ row_from rows position ys) ≡ is_long chunk)
-seen_whole rows position chunk ys ready = at (or_less (length chunk) 65539)
+pub seen_whole : (most : ℕ) (rows : Rows) (position : RowPosition) (chunk ys : List ℕ) → (position ≢ Ended → length chunk < most + 3 → ys ≡ [])
+    → (seen_of most (chunk ++ row_from rows position ys) ≡ seen_of most chunk) × (is_long most (chunk ++ row_from rows position ys) ≡ is_long most chunk)
+seen_whole most rows position chunk ys ready = at (or_less (length chunk) (most + 3))
   where
-    at : (length chunk < 65539) ⊎ (65539 ≤ length chunk) → (seen_of (chunk ++ row_from rows position ys) ≡ seen_of chunk) × (is_long (chunk ++ row_from rows position ys) ≡ is_long chunk)
-    at (inr h) = seen_same chunk (row_from rows position ys) h
+    at : (length chunk < most + 3) ⊎ (most + 3 ≤ length chunk) → (seen_of most (chunk ++ row_from rows position ys) ≡ seen_of most chunk) × (is_long most (chunk ++ row_from rows position ys) ≡ is_long most chunk)
+    at (inr h) = seen_same most chunk (row_from rows position ys) h
     at (inl h) =
         let same : chunk ++ row_from rows position ys ≡ chunk = ap (λ r. chunk ++ r) (nothing_left rows position ys (λ e. ready e h)).0 ∙ append-nil chunk in
-        (ap seen_of same, ap is_long same)
+        (ap (seen_of most) same, ap (is_long most) same)
 
 -- a row of which a chunk was read
 begins : (rows : Rows) (Adds : MayAdd) (left : List ℕ) (lines : List Line) (position : RowPosition) (chunk extra xs ys : List ℕ) (behind : ℕ) (outcome : Outcome)
-    → (row_from rows Cell xs ≡ chunk ++ row_from rows position ys) × (rows_after rows Cell xs ≡ rows_after rows position ys) → (position ≢ Ended → length chunk < 65539 → ys ≡ []) → 0 < length chunk
+    → (row_from rows Cell xs ≡ chunk ++ row_from rows position ys) × (rows_after rows Cell xs ≡ rows_after rows position ys) → (position ≢ Ended → length chunk < Adds.most + 3 → ys ≡ []) → 0 < length chunk
     → IsAdded Adds chunk extra behind outcome → AreLines rows Adds lines (rows_after rows position ys) left
     → AreLines rows Adds (record { bytes = chunk ++ row_from rows position ys; extra = extra; behind = behind; outcome = outcome } ∷ lines) xs left
 begins rows Adds left lines position chunk extra xs ys behind outcome leads ready some added are =
     let line : Line = record { bytes = chunk ++ row_from rows position ys; extra = extra; behind = behind; outcome = outcome } in
     let more : 0 < length (row_from rows Cell xs) = omega (arith, ap length leads.0, length-append chunk (row_from rows position ys)) in
-    let seen = seen_whole rows position chunk ys ready in (
+    let seen = seen_whole Adds.most rows position chunk ys ready in (
       row_from_some rows Cell xs more,
       sym leads.0,
-      subst (λ t. Adds t (is_long line.bytes) extra behind outcome × StandsBehind t (is_long line.bytes) behind) (sym seen.0) (subst (λ b. Adds (seen_of chunk) b extra behind outcome × StandsBehind (seen_of chunk) b behind) (sym seen.1) added),
+      subst (λ t. Adds.adds t (is_long Adds.most line.bytes) extra behind outcome × StandsBehind t (is_long Adds.most line.bytes) behind) (sym seen.0)
+          (subst (λ b. Adds.adds (seen_of Adds.most chunk) b extra behind outcome × StandsBehind (seen_of Adds.most chunk) b behind) (sym seen.1) added),
       subst (λ t. AreLines rows Adds lines t left) (sym leads.1) are,
     )
 
@@ -77,8 +78,8 @@ regroup_row : (done front last rest : List ℕ) → done ++ ((front ++ last) ++ 
 regroup_row done front last rest = simp append_assoc
 
 pub next_row : (rows : Rows) (Adds : MayAdd) (input left mid next old now new : Option (List ℕ)) (before c : Counts) (position : RowPosition) (chunk extra : List ℕ) (behind : ℕ) (outcome : Outcome)
-    → Leads rows Cell left chunk position mid → (position ≢ Ended → length chunk < 65539 → OnSome left (IsAtEnd mid)) → 0 < length chunk → IsAdded Adds chunk extra behind outcome
-    → (last : List ℕ) → ((position ≢ Ended → length chunk < 65539 → IsAtEnd mid) → Passes rows position chunk extra behind mid next now new last)
+    → Leads rows Cell left chunk position mid → (position ≢ Ended → length chunk < Adds.most + 3 → OnSome left (IsAtEnd mid)) → 0 < length chunk → IsAdded Adds chunk extra behind outcome
+    → (last : List ℕ) → ((position ≢ Ended → length chunk < Adds.most + 3 → IsAtEnd mid) → Passes rows position chunk extra behind mid next now new last)
     → UnderWay rows Adds input left old now [] before c → UnderWay rows Adds input next old new last before (count_one c outcome)
 next_row rows Adds None left mid next old now new before c position chunk extra behind outcome leads ready some added last passes way = tt
 next_row rows Adds (Some all) None mid next old now new before c position chunk extra behind outcome leads ready some added last passes way = absurd way
@@ -97,7 +98,7 @@ next_row rows Adds (Some all) (Some xs) (Some ys) next old now new before c posi
 
 -- all was read
 pub read_out : (rows : Rows) (Adds : MayAdd) (input left mid old now : Option (List ℕ)) (before c : Counts) (position : RowPosition) (chunk : List ℕ)
-    → Leads rows Cell left chunk position mid → (position ≢ Ended → length chunk < 65539 → OnSome left (IsAtEnd mid)) → chunk ≡ [] → UnderWay rows Adds input left old now [] before c
+    → Leads rows Cell left chunk position mid → (position ≢ Ended → length chunk < Adds.most + 3 → OnSome left (IsAtEnd mid)) → chunk ≡ [] → UnderWay rows Adds input left old now [] before c
     → UnderWay rows Adds input mid old now [] before c × OnSome input (IsAtEnd mid)
 read_out rows Adds None left mid old now before c position chunk leads ready none way = (tt, tt)
 read_out rows Adds (Some all) None mid old now before c position chunk leads ready none way = absurd way
@@ -225,8 +226,8 @@ written_in rows Adds (Some xs) old now new ready begun (front, back, split, part
     (left, lines, are, (done ++ front, back ++ rest, text ∙ ap (λ t. done ++ t) (ap (λ t. t ++ rest) split ∙ append_assoc front back rest) ∙ sym (append_assoc done front (back ++ rest)), Appends-trans old now new done front appended part))
 
 pub given_up_in : (rows : Rows) (Adds : MayAdd) (input left mid old now new : Option (List ℕ)) (before c : Counts) (position : RowPosition) (chunk extra : List ℕ) (behind : ℕ) (outcome : Outcome)
-    → Leads rows Cell left chunk position mid → (position ≢ Ended → length chunk < 65539 → OnSome left (IsAtEnd mid)) → 0 < length chunk → IsAdded Adds chunk extra behind outcome
-    → ((position ≢ Ended → length chunk < 65539 → IsAtEnd mid) → PassesFront rows position chunk extra behind mid now new)
+    → Leads rows Cell left chunk position mid → (position ≢ Ended → length chunk < Adds.most + 3 → OnSome left (IsAtEnd mid)) → 0 < length chunk → IsAdded Adds chunk extra behind outcome
+    → ((position ≢ Ended → length chunk < Adds.most + 3 → IsAtEnd mid) → PassesFront rows position chunk extra behind mid now new)
     → UnderWay rows Adds input left old now [] before c → IsBegun rows Adds input old new
 given_up_in rows Adds None left mid old now new before c position chunk extra behind outcome leads ready some added passes way = tt
 given_up_in rows Adds (Some all) None mid old now new before c position chunk extra behind outcome leads ready some added passes way = absurd way

@@ -3,7 +3,7 @@ use Rattle.std.proofs.Common.{◌≡◌, ℕ, min, ◌+◌, ◌-◌, ◌<◌, �
 use Rattle.std.proofs.lemmas.List.{take-append-le}
 use Rattle.std.proofs.lemmas.Bool.Decides.{nat_tests}
 use Rattle.std.proofs.Math.Seq.{drop-append-add, take-append-add}
-use Rattle.mmdb_filter.specs.Lines.{text_length, text_of, front_of, back_of, most_seen, seen_of, is_long, row_with}
+use Rattle.mmdb_filter.specs.Lines.{text_length, text_of, front_of, back_of, seen_of, is_long, row_with}
 
 pub text_within : (row : List ℕ) → (text_length row ≤ length row) × (length row ≤ text_length row + 2)
 unfolding text_length
@@ -53,21 +53,16 @@ row_behind d l extra behind (inr (h, none)) =
     ap (λ t. t ++ (extra ++ back_of (d ++ l) behind)) front ∙ ap (λ t. (d ++ front_of l behind) ++ (extra ++ t)) back ∙ append_assoc d (front_of l behind) (extra ++ back_of l behind)
 
 -- what is seen of a row that has more bytes than are seen, and three
-pub most : most_seen ≡ 65536
-unfolding most_seen
-most = refl
+seen_front : (most : ℕ) (row : List ℕ) → most + 3 ≤ length row → seen_of most row ≡ take most row
+seen_front most row h = take-take most (text_length row) row (omega (arith, (text_within row).1))
 
-seen_front : (row : List ℕ) → most_seen + 3 ≤ length row → seen_of row ≡ take most_seen row
-seen_front row h = take-take most_seen (text_length row) row (omega (arith, (text_within row).1))
+pub long : (most : ℕ) (row : List ℕ) → most + 3 ≤ length row → is_long most row ≡ true
+long most row h = lt_true most (length (text_of row)) (omega (arith, (text_within row).0, (text_within row).1, length-take-le (text_length row) row (text_within row).0))
 
-pub long : (row : List ℕ) → most_seen + 3 ≤ length row → is_long row ≡ true
-long row h = lt_true most_seen (length (text_of row)) (omega (arith, (text_within row).0, (text_within row).1, length-take-le (text_length row) row (text_within row).0))
-
-pub seen_same : (chunk rest : List ℕ) → 65539 ≤ length chunk → (seen_of (chunk ++ rest) ≡ seen_of chunk) × (is_long (chunk ++ rest) ≡ is_long chunk)
-seen_same chunk rest h =
-    let enough : most_seen + 3 ≤ length chunk = omega (arith, most) in
-    let more : most_seen + 3 ≤ length (chunk ++ rest) = omega (arith, most, length-append chunk rest) in
-    (seen_front (chunk ++ rest) more ∙ take-append-le most_seen chunk rest (omega arith) ∙ sym (seen_front chunk enough), long (chunk ++ rest) more ∙ sym (long chunk enough))
+pub seen_same : (most : ℕ) (chunk rest : List ℕ) → most + 3 ≤ length chunk → (seen_of most (chunk ++ rest) ≡ seen_of most chunk) × (is_long most (chunk ++ rest) ≡ is_long most chunk)
+seen_same most chunk rest h =
+    let more : most + 3 ≤ length (chunk ++ rest) = omega (arith, length-append chunk rest) in
+    (seen_front most (chunk ++ rest) more ∙ take-append-le most chunk rest (omega arith) ∙ sym (seen_front most chunk h), long most (chunk ++ rest) more ∙ sym (long most chunk h))
 
 pub or_less : (m n : ℕ) → (m < n) ⊎ (n ≤ m)
 or_less m n = at (nat_lt m n) refl
@@ -76,16 +71,16 @@ or_less m n = at (nat_lt m n) refl
     at true e = inl (grind (arith, nat_tests))
     at false e = inr (grind (arith, nat_tests))
 
-pub seen_cut : (row : List ℕ) (n : ℕ) → n ≡ min (text_length row) 65536 → take n row ≡ seen_of row
-seen_cut row n e = at (or_less most_seen (text_length row))
+pub seen_cut : (most : ℕ) (row : List ℕ) (n : ℕ) → n ≡ min (text_length row) most → take n row ≡ seen_of most row
+seen_cut most row n e = at (or_less most (text_length row))
   where
-    at : (most_seen < text_length row) ⊎ (text_length row ≤ most_seen) → take n row ≡ seen_of row
+    at : (most < text_length row) ⊎ (text_length row ≤ most) → take n row ≡ seen_of most row
     at (inl h) =
-        let same : n ≡ most_seen = omega (arith, most) in
-        ap (λ k. take k row) same ∙ sym (take-take most_seen (text_length row) row (omega arith))
+        let same : n ≡ most = omega arith in
+        ap (λ k. take k row) same ∙ sym (take-take most (text_length row) row (omega arith))
     at (inr h) =
-        let same : n ≡ text_length row = omega (arith, most) in
-        ap (λ k. take k row) same ∙ sym (take_all most_seen (take (text_length row) row) (omega (arith, length-take-le (text_length row) row (text_within row).0)))
+        let same : n ≡ text_length row = omega arith in
+        ap (λ k. take k row) same ∙ sym (take_all most (take (text_length row) row) (omega (arith, length-take-le (text_length row) row (text_within row).0)))
 
-pub long_is : (row : List ℕ) → nat_lt 65536 (text_length row) ≡ is_long row
-long_is row = ap (λ n. nat_lt n (text_length row)) (sym most) ∙ ap (λ n. nat_lt most_seen n) (sym (length-take-le (text_length row) row (text_within row).0))
+pub long_is : (most : ℕ) (row : List ℕ) → nat_lt most (text_length row) ≡ is_long most row
+long_is most row = ap (λ n. nat_lt most n) (sym (length-take-le (text_length row) row (text_within row).0))

@@ -26,15 +26,16 @@ front_of row behind = take (text_length row - behind) row
 abbrev pub back_of : List ℕ → ℕ → List ℕ
 back_of row behind = drop (text_length row - behind) row
 
--- how many bytes of a text additions see
+-- how many bytes of a text additions mostly see
 unfoldable pub most_seen : ℕ
 most_seen = 65536
 
-abbrev pub seen_of : List ℕ → List ℕ
-seen_of row = take most_seen (text_of row)
+-- what is seen of the text of a row, of which so many bytes are seen at most
+abbrev pub seen_of : ℕ → List ℕ → List ℕ
+seen_of most row = take most (text_of row)
 
-abbrev pub is_long : List ℕ → Bool
-is_long row = nat_lt most_seen (length (text_of row))
+abbrev pub is_long : ℕ → List ℕ → Bool
+is_long most row = nat_lt most (length (text_of row))
 
 -- a row with its end, what is added to it, how many bytes of its text follow that, and how it fared
 pub record Line : Type 0 where
@@ -43,10 +44,11 @@ pub record Line : Type 0 where
   pub behind : ℕ
   pub outcome : Outcome
 
--- What additions may do: to a row of which they see such a text, and whether it is longer, they add such bytes, after
--- which that number of bytes of the text follows, with that outcome.
-abbrev pub MayAdd : Type 1
-MayAdd = List ℕ → Bool → List ℕ → ℕ → Outcome → Type 0
+-- What additions may do: to a row of which they see such a text, so many bytes at most, and whether it is longer, they add
+-- such bytes, after which that number of bytes of the text follows, with that outcome.
+pub record MayAdd : Type 1 where
+  pub most : ℕ
+  pub adds : List ℕ → Bool → List ℕ → ℕ → Outcome → Type 0
 
 -- The bytes that follow are of the text that is seen; none of a text that is longer.
 abbrev pub StandsBehind : List ℕ → Bool → ℕ → Type 0
@@ -54,7 +56,8 @@ StandsBehind text is_long behind = (behind ≤ length text) × (is_long ≡ true
 
 -- This may be added to the row.
 abbrev pub IsAdded : MayAdd → List ℕ → List ℕ → ℕ → Outcome → Type 0
-IsAdded Adds row extra behind outcome = Adds (seen_of row) (is_long row) extra behind outcome × StandsBehind (seen_of row) (is_long row) behind
+IsAdded Adds row extra behind outcome =
+    Adds.adds (seen_of Adds.most row) (is_long Adds.most row) extra behind outcome × StandsBehind (seen_of Adds.most row) (is_long Adds.most row) behind
 
 -- These are the first rows of the bytes, in order, each with what is added, and this is left of the bytes.
 abbrev pub AreLines : Rows → MayAdd → List Line → List ℕ → List ℕ → Type 0

@@ -8,9 +8,9 @@ use Rattle.mmdb_filter.specs.declared.rows.Rows.{Rows}
 use Rattle.mmdb_filter.specs.declared.rows.RowPosition.{RowPosition}
 use Rattle.mmdb_filter.specs.declared.rows.RowPosition.TheVariants.{Cell, Plain, Quoted, Ended}
 
--- A row that has not ended in a chunk of less than 65,539 bytes ends with the input.
-abbrev pub EndsWithInput : RowPosition → List ℕ → Option (List ℕ) → Type 0
-EndsWithInput position chunk left = position ≢ Ended → length chunk < 65539 → IsAtEnd left
+-- A row that has not ended in a chunk of less than so many bytes ends with the input.
+abbrev pub EndsWithInput : ℕ → RowPosition → List ℕ → Option (List ℕ) → Type 0
+EndsWithInput held position chunk left = position ≢ Ended → length chunk < held → IsAtEnd left
 
 -- all of the row was read, and what was written of it and what is ready make it, with what is added
 abbrev pub Passes : Rows → RowPosition → List ℕ → List ℕ → ℕ → Option (List ℕ) → Option (List ℕ) → Option (List ℕ) → Option (List ℕ) → List ℕ → Type 0

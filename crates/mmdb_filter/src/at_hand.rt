@@ -87,7 +87,7 @@ fn pass_row<A: Additions>(
 {
     added.clear();
     let len = text_length(row);
-    let (text, is_long) = seen(row, len);
+    let (text, is_long) = seen(row, len, additions.most_seen());
     let addition = additions.add(memory, text, is_long, added)?;
     append_row(ready, row, len, added.as_slice(), addition.behind)?;
     Ok(addition.outcome)
@@ -140,8 +140,8 @@ fn pass_rows<A: Additions, P: Progress>(
                 at_hand: AtHand::OutOfMemory,
             };
         };
-        if outcome == Outcome::Occupied {
-            progress.is_occupied(passed);
+        if outcome.is_named() {
+            progress.is_named(passed, outcome);
         }
         batch.counts.count(outcome);
         batch.passed = passed + 1;

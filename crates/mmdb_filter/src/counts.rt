@@ -10,12 +10,22 @@ pub enum Outcome {
     Absent,
     /// It has no address.
     Unreadable,
-    /// It is not of the form that was asked for, or too long to be read.
+    /// It is not of the form that was asked for.
     Malformed,
     /// The address, the record or a field failed.
     Failed,
+    /// It is too long to be read, and stays as it is.
+    TooLong,
     /// It has what would be added already, and stays as it is.
     Occupied,
+}
+
+impl Outcome {
+    /// Whether the first line that fares so is named.
+    #[inline(always)]
+    pub(crate) fn is_named(self) -> bool {
+        matches!(self, Outcome::TooLong | Outcome::Occupied)
+    }
 }
 
 /// How many lines fared so.
@@ -25,6 +35,7 @@ pub struct Counts {
     pub absent: u64,
     pub unreadable: u64,
     pub malformed: u64,
+    pub too_long: u64,
     pub rejected: u64,
     pub occupied: u64,
 }
@@ -41,6 +52,7 @@ impl Counts {
             absent: 0,
             unreadable: 0,
             malformed: 0,
+            too_long: 0,
             rejected: 0,
             occupied: 0,
         }
@@ -55,6 +67,7 @@ impl Counts {
             .checked_add(self.absent)?
             .checked_add(self.unreadable)?
             .checked_add(self.malformed)?
+            .checked_add(self.too_long)?
             .checked_add(self.rejected)?
             .checked_add(self.occupied)
     }
@@ -70,6 +83,7 @@ impl Counts {
             Outcome::Absent => self.absent += 1,
             Outcome::Unreadable => self.unreadable += 1,
             Outcome::Malformed => self.malformed += 1,
+            Outcome::TooLong => self.too_long += 1,
             Outcome::Failed => self.rejected += 1,
             Outcome::Occupied => self.occupied += 1,
         }

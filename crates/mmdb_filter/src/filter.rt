@@ -1,8 +1,8 @@
 //! The filter.
-ghost use Rattle.std.specs.Prelude.{◌≡◌, ◌<◌, ◌-◌, ◌^◌, ◌++◌, [], List, ℕ, Bool, Option, IfOk, OnOk, OnErr, OnSome, true, false};
+ghost use Rattle.std.specs.Prelude.{◌≡◌, ◌<◌, ◌≤◌, ◌-◌, ◌^◌, ◌++◌, [], List, ℕ, Bool, Option, IfOk, OnOk, OnErr, OnSome, true, false};
 ghost use Rattle.std.specs.Io.KnownBytes.{IsAtEnd};
 ghost use Rattle.mmdb_filter.specs.Counting.{total};
-ghost use Rattle.mmdb_filter.specs.Lines.{StandsBehind, IsFiltered, IsBegun};
+ghost use Rattle.mmdb_filter.specs.Lines.{MayAdd, StandsBehind, IsFiltered, IsBegun};
 ghost use Rattle.mmdb_filter.specs.Working.{UnderWay, IsBegunWith};
 ghost use Rattle.mmdb_filter.specs.declared.counts.Counts.{Counts as SpecCounts};
 ghost use Rattle.mmdb_filter.specs.declared.counts.Outcome.{Outcome as SpecOutcome};
@@ -16,7 +16,7 @@ use crate::pass::pass_chunks;
 use crate::put::put_ready;
 use crate::refill::refill;
 use crate::rows::{RowPosition, Rows};
-use crate::text::{seen, text_length};
+use crate::text::{MOST_BEHIND, seen, text_length};
 use std::alloc::{AllocError, Global};
 use std::io::{self, ErrorKind, Write};
 
@@ -34,15 +34,21 @@ pub trait Additions {
     /// What it remembers from row to row.
     type Memory: Drop;
 
-    /// What may be added to a row of which such a text is seen, without the row's end, where it may be that the
-    /// text is longer; how many bytes of the text follow that; and how that row fares then.
-    ghost adds: { Self → List ℕ → Bool → List ℕ → ℕ → SpecOutcome → Type 0 };
+    /// How many bytes of a text are seen at most, and what may be added to a row of which such a text is seen, without the
+    /// row's end, where it may be that the text is longer; how many bytes of the text follow that; and how that row fares then.
+    ghost adds: { Self → MayAdd };
 
     /// What is remembered is right.
     ghost fits: { Self → Self.Memory → Type 0 };
 
-    /// Appends to `out` what is added to a row. Its text comes without its end. Of a long text only the first
-    /// [`MOST_SEEN`](crate::MOST_SEEN) bytes come, and `is_long` says so; what is added comes after all of it.
+    /// How many bytes of a row's text are seen at most: [`MOST_SEEN`](crate::MOST_SEEN) or another number, of at most
+    /// [`MOST_ASKED`](crate::MOST_ASKED). As much is held of a row.
+    fn most_seen(&self) -> usize
+        ensures most { result ≡ (adds self.now).most }
+        ensures few { result ≤ 1048576 };
+
+    /// Appends to `out` what is added to a row. Its text comes without its end. Of a long text only its first bytes come, as
+    /// many as are seen, and `is_long` says so; what is added comes after all of it.
     fn add(
         &self,
         memory: &mut Self::Memory,
@@ -52,7 +58,7 @@ pub trait Additions {
     ) -> Result<Added, AllocError>
         requires { fits self.now memory.old }
         ensures added { IfOk result (λ addition. (extra : List ℕ)
-            × adds self.now text.now is_long extra addition.behind addition.outcome
+            × (adds self.now).adds text.now is_long extra addition.behind addition.outcome
             × (out.new.items ≡ out.old.items ++ extra)) }
         ensures behind { IfOk result (λ addition. StandsBehind text.now is_long addition.behind) }
         ensures fits { fits self.now memory.new };
@@ -66,17 +72,22 @@ pub trait Additions {
 
 /// Who is asked whether a filter goes on.
 pub trait Progress {
+    /// It is asked that the filter ends.
+    ghost ends: { Self → Type 0 };
+
     /// The rows that passed fared so. Whether the filter goes on; else it ends before the next row.
-    fn passed(&mut self, counts: Counts) -> bool;
+    fn passed(&mut self, counts: Counts) -> bool
+        ensures { result ≡ false → ends self.new };
 
     /// The input was read, which may have waited. Whether the filter goes on; else it ends before the row that comes.
-    fn has_read(&mut self) -> bool;
+    fn has_read(&mut self) -> bool
+        ensures { result ≡ false → ends self.new };
 
-    /// The row after this many is between quotes where 65,539 bytes of it are read, or where the input ends.
-    fn stays_quoted(&mut self, rows: u64);
+    /// The row after this many is between quotes where as many bytes of it are read as are held, or where the input ends.
+    fn stays_quoted(&mut self, rows: u64, is_long: bool);
 
-    /// The row after this many has already what would be added.
-    fn is_occupied(&mut self, rows: u64);
+    /// The row after this many stays as it is: it has already what would be added, or it is too long.
+    fn is_named(&mut self, rows: u64, outcome: Outcome);
 }
 
 /// Where a filter ended.
@@ -134,19 +145,22 @@ fn pass_read<A: Additions, R: Live, W: Write, P: Progress>(
     ensures fits { A.fits additions.now memory.new }
 {
     batch.chunk.clear();
-    let mut position = read_live(input, rows, RowPosition::Cell, &mut batch.chunk, out)?;
+    let most = additions.most_seen();
+    let held = most + MOST_BEHIND;
+    let mut position = read_live(input, rows, RowPosition::Cell, held, &mut batch.chunk, out)?;
     if batch.chunk.is_empty() {
         return Ok(false);
     }
     batch.added.clear();
     let len = text_length(batch.chunk.as_slice());
-    let (text, is_long) = seen(batch.chunk.as_slice(), len);
+    let (text, is_long) = seen(batch.chunk.as_slice(), len, most);
     let addition = additions.add(memory, text, is_long, &mut batch.added)?;
     let is_quoted = position == RowPosition::Quoted;
     pass_chunks(
         input,
         rows,
         &mut position,
+        held,
         &mut batch.chunk,
         batch.added.as_slice(),
         addition.behind,
@@ -154,10 +168,10 @@ fn pass_read<A: Additions, R: Live, W: Write, P: Progress>(
         out,
     )?;
     if is_quoted || position == RowPosition::Quoted {
-        progress.stays_quoted(batch.passed);
+        progress.stays_quoted(batch.passed, is_quoted && is_long);
     }
-    if addition.outcome == Outcome::Occupied {
-        progress.is_occupied(batch.passed);
+    if addition.outcome.is_named() {
+        progress.is_named(batch.passed, addition.outcome);
     }
     batch.counts.count(addition.outcome);
     batch.passed += 1;
@@ -183,6 +197,7 @@ fn pass_all<A: Additions, R: Live, W: Write, P: Progress>(
         batch.new.ready.items batch.old.counts batch.new.counts) }
     ensures end { IfOk result (λ is_end. is_end ≡ true
         → OnSome (R.remaining input.old) (IsAtEnd (R.remaining input.new))) }
+    ensures asked { IfOk result (λ is_end. is_end ≡ false → P.ends progress.new) }
     ensures begun { OnErr result (IsBegunWith rows (A.adds additions.now)
         (R.remaining input.old) (W.contents out.old) (W.contents out.new)
         batch.new.ready.items) }
@@ -222,7 +237,8 @@ fn pass_all<A: Additions, R: Live, W: Write, P: Progress>(
 /// by another call, also with other additions. A last row without an end stays without. A long row passes in chunks. `out` is flushed before each
 /// read of the input, which may wait, and not at the end.
 ///
-/// An `Err` is of the input, the output or memory, or there are 2^64 - 1 rows; a beginning of that was written then.
+/// An `Err` is of the input, the output or memory, or there are 2^64 - 1 rows; a beginning of that was written then. Memory for
+/// as much as additions see of a row is taken at once.
 pub fn filter_rows<A: Additions, R: Live, W: Write, P: Progress>(
     alloc: Global,
     rows: Rows,
@@ -239,6 +255,7 @@ pub fn filter_rows<A: Additions, R: Live, W: Write, P: Progress>(
         (W.contents out.old) (W.contents out.new) before filtered.counts) }
     ensures end { IfOk result (λ filtered. filtered.is_end ≡ true
         → OnSome (R.remaining input.old) (IsAtEnd (R.remaining input.new))) }
+    ensures asked { IfOk result (λ filtered. filtered.is_end ≡ false → P.ends progress.new) }
     ensures begun { OnErr result (IsBegun rows (A.adds additions.now)
         (R.remaining input.old) (W.contents out.old) (W.contents out.new)) }
     ensures fits { A.fits additions.now memory.new }
@@ -246,7 +263,7 @@ pub fn filter_rows<A: Additions, R: Live, W: Write, P: Progress>(
     let Some(first) = before.total() else {
         return Err(io::Error::from(ErrorKind::FileTooLarge));
     };
-    let mut batch = Batch::new(alloc, first, before)?;
+    let mut batch = Batch::new(alloc, first, before, additions.most_seen())?;
     let done = pass_all(rows, additions, memory, input, &mut batch, out, progress);
     put_ready(out, &mut batch.ready)?;
     Ok(Filtered {

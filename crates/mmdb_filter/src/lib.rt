@@ -16,6 +16,7 @@ mod rows;
 mod runs;
 mod text;
 
+pub use batch::has_room;
 pub use chunk::read_chunk;
 pub use counts::{Counts, Outcome};
 pub use filter::{Added, Additions, Filtered, Progress, filter_rows};
@@ -23,4 +24,4 @@ pub use live::Live;
 pub use quotes::put_csv_cell;
 pub use rows::{RowPosition, Rows, first_row};
 pub use runs::{either_from, here_or_from};
-pub use text::MOST_SEEN;
+pub use text::{MOST_ASKED, MOST_SEEN};

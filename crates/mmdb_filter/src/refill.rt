@@ -1,5 +1,5 @@
 //! Reads that may wait.
-ghost use Rattle.std.specs.Prelude.{◌≡◌, [], IfOk, OnErr, OnOk, OnSome, Some, true};
+ghost use Rattle.std.specs.Prelude.{◌≡◌, [], IfOk, OnErr, OnOk, OnSome, Some, false, true};
 ghost use Rattle.std.specs.Io.KnownBytes.{IsAtEnd, Keeps};
 ghost use Rattle.mmdb_filter.specs.Lines.{AppendsFront};
 ghost use Rattle.mmdb_filter.specs.Working.{IsPutFrom};
@@ -15,6 +15,7 @@ fn read_next<R: Live, P: Progress>(input: &mut R, progress: &mut P) -> io::Resul
     ensures left { Keeps (R.remaining input.old) (R.remaining input.new) }
     ensures end { IfOk result (λ ended. ended ≡ Some true
         → OnSome (R.remaining input.old) (IsAtEnd (R.remaining input.new))) }
+    ensures asked { IfOk result (λ ended. ended ≡ Some false → P.ends progress.new) }
 {
     match input.fill_buf() {
         Ok(shown) if shown.is_empty() => Ok(Some(true)),
@@ -35,6 +36,7 @@ fn flush_and_read<R: Live, W: Write, P: Progress>(
     ensures written { Keeps (W.contents out.old) (W.contents out.new) }
     ensures end { IfOk result (λ ended. ended ≡ Some true
         → OnSome (R.remaining input.old) (IsAtEnd (R.remaining input.new))) }
+    ensures asked { IfOk result (λ ended. ended ≡ Some false → P.ends progress.new) }
 {
     out.flush()?;
     read_next(input, progress)
@@ -51,6 +53,7 @@ pub(crate) fn refill<R: Live, W: Write, P: Progress>(
     ensures left { Keeps (R.remaining input.old) (R.remaining input.new) }
     ensures end { IfOk result (λ ended. ended ≡ Some true
         → OnSome (R.remaining input.old) (IsAtEnd (R.remaining input.new))) }
+    ensures asked { IfOk result (λ ended. ended ≡ Some false → P.ends progress.new) }
     ensures put { OnOk result (IsPutFrom ready.old.items ready.new.items
         (W.contents out.old) (W.contents out.new)) }
     ensures begun { OnErr result

@@ -7,17 +7,18 @@ use Rattle.mmdb_format.specs.Unfolding.{Tree, scalar, array, table, pointer, Tre
 use Rattle.mmdb_format.proofs.UnfoldingLaws.{one_tree_unfolds}
 use Rattle.mmdb_decode.specs.Reading.{Reading, plus}
 use Rattle.mmdb_decode.specs.Errors.{answer}
+use Rattle.mmdb_decode.specs.State.{begin}
 use Rattle.mmdb_record.proofs.LimitLaws.{answer_within}
 use Rattle.mmdb_value.specs.AnyValue.{value_at}
 use Rattle.mmdb_value.specs.Values.{value_tree}
 use Rattle.mmdb_value.specs.declared.any_value.Value.{Value}
 use Rattle.mmdb_value.proofs.StandingLaws.{value_is_what_stands}
-use Rattle.mmdb_reader.specs.Selecting.{selected, read_there, read_along, answer_along, SelectsTo}
+use Rattle.mmdb_reader.specs.Selecting.{selected, read_there, read_along, answer_along, SelectsTo, meets_other_type}
 use Rattle.mmdb_reader.specs.declared.path.PathElement.{PathElement}
 use Rattle.mmdb_reader.proofs.PartLemmas.{path_selects}
 use Rattle.mmdb_json.specs.Shown.{Shows, AllShow, PairsShow, key_bytes, WritesShown}
 use Rattle.mmdb_json.specs.Texts.{IsCompact}
-use Rattle.mmdb_found.specs.Found.{StandsAlong, IsJsonAlong, WritesAlong}
+use Rattle.mmdb_found.specs.Found.{StandsAlong, IsJsonAlong, WritesAlong, unless_other, value_found}
 
 -- what shows a tree without its pointers shows the tree
 key_without : (k : Tree) → key_bytes (without_pointers k) ≡ key_bytes k
@@ -111,18 +112,24 @@ compact_without u v t same h = record {
   utf8 = h.utf8;
 }
 
--- what was read, and written
-selected_value : (path : List PathElement) (s : List ℕ) (offset : ℕ) (value : Option Value) (v : Value) → SelectsTo value_tree (answer_along path true (value_at true) s) (Some offset) value → value ≡ Some v → answer_along path true (value_at true) s offset ≡ Some (Some (value_tree v))
-selected_value path s offset value v h e = h ∙ ap (λ x. Some (option_map value_tree x)) e
+-- a value is found where it was read
+read_found : {A : Type 0} (met : Bool) (read : Option (Option A)) (v : A) → unless_other met read ≡ Some (Some v) → read ≡ Some (Some v)
+read_found met (Some r) v h = h
+read_found true None v h = absurd (cc)
+read_found false None v h = absurd (cc)
 
-pub json_along : (path : List PathElement) (s : List ℕ) (o : Option ℕ) (value : Option Value) (v : Value) (t : List ℕ) → SelectsTo value_tree (answer_along path true (value_at true) s) o value → value ≡ Some v → IsCompact (value_tree v) t → IsJsonAlong path s o t
+-- what was found, and written
+found_value : (path : List PathElement) (s : List ℕ) (offset : ℕ) (value : Option Value) (v : Value) → SelectsTo value_tree (value_found path s) (Some offset) value → value ≡ Some v → answer_along path true (value_at true) s offset ≡ Some (Some (value_tree v))
+found_value path s offset value v h e = read_found (meets_other_type path (begin s offset)) (answer_along path true (value_at true) s offset) (value_tree v) (h ∙ ap (λ x. Some (option_map value_tree x)) e)
+
+pub json_along : (path : List PathElement) (s : List ℕ) (o : Option ℕ) (value : Option Value) (v : Value) (t : List ℕ) → SelectsTo value_tree (value_found path s) o value → value ≡ Some v → IsCompact (value_tree v) t → IsJsonAlong path s o t
 json_along path s None value v t h e j = let none : None ≡ Some v = sym h ∙ e in absurd (cc)
 json_along path s (Some offset) value v t h e j =
-    let (part, along, same) = stands path s offset (value_tree v) (selected_value path s offset value v h e) in
+    let (part, along, same) = stands path s offset (value_tree v) (found_value path s offset value v h e) in
     (part, along, compact_without part (value_tree v) t same j)
 
-pub writes_along : (path : List PathElement) (s : List ℕ) (o : Option ℕ) (value : Option Value) (v : Value) (old new : List Token) → SelectsTo value_tree (answer_along path true (value_at true) s) o value → value ≡ Some v → WritesShown (value_tree v) old new → WritesAlong path s o true old new
+pub writes_along : (path : List PathElement) (s : List ℕ) (o : Option ℕ) (value : Option Value) (v : Value) (old new : List Token) → SelectsTo value_tree (value_found path s) o value → value ≡ Some v → WritesShown (value_tree v) old new → WritesAlong path s o true old new
 writes_along path s None value v old new h e w = let none : None ≡ Some v = sym h ∙ e in absurd (cc)
 writes_along path s (Some offset) value v old new h e w =
-    let (part, along, same) = stands path s offset (value_tree v) (selected_value path s offset value v h e) in
+    let (part, along, same) = stands path s offset (value_tree v) (found_value path s offset value v h e) in
     (part, along, (w.0, shows_without part w.0 (subst (λ t. Shows t w.0) same w.1), w.2))

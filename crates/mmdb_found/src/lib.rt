@@ -1,6 +1,6 @@
-//! What lookups found, as JSON.
+//! What lookups found along paths, as values and as JSON.
 #![tactic(auto)]
 
 mod found;
 
-pub use found::{found_json, write_found};
+pub use found::{found_json, value_along, write_found};

@@ -4,8 +4,8 @@ use Rattle.mmdb_format.specs.Unfolding.{Tree}
 use Rattle.mmdb_value.specs.Values.{value_tree}
 use Rattle.mmdb_value.specs.declared.any_value.Value.{Value}
 use Rattle.mmdb_reader.specs.declared.path.PathElement.{PathElement}
-use Rattle.mmdb_layout.specs.Reading.{reads_in}
-use Rattle.mmdb_layout.specs.Choices.{IsKept}
+use Rattle.mmdb_layout.specs.Reading.{outlines_in}
+use Rattle.mmdb_layout.specs.KeptAnswers.{IsKept}
 use Rattle.mmdb_layout.specs.Conditions.{SaysFits, SaysFoundBy, SaysMetBy, SaysAllMetBy, HasUnreadBy}
 use Rattle.mmdb_layout.specs.declared.condition.Condition.{Condition}
 use Rattle.mmdb_layout.specs.declared.condition.Requirement.{Requirement}
@@ -24,6 +24,6 @@ pub not_met : (all left rest : List Condition) (condition : Condition) (reads : 
     → ConditionsWay all left reads → left ≡ condition ∷ rest → SaysMetBy condition reads b → b ≡ false → SaysAllMetBy all reads false
 not_met all left rest condition reads b way is met none = way.0 false (subst (λ l. SaysAllMetBy l reads false) (sym is) (inl (subst (λ x. SaysMetBy condition reads x) none met, refl)))
 
--- what was answered for a record is what is kept of it
-pub kept_of : (conditions : List Condition) (s : List ℕ) (o : Option ℕ) (offset : ℕ) (b : Bool) → o ≡ Some offset → SaysAllMetBy conditions (reads_in s o) b → IsKept conditions s (record { key = offset; value = b })
-kept_of conditions s o offset b is says = λ below. subst (λ x. SaysAllMetBy conditions (reads_in s x) b) is says
+-- what was answered for a record of a data section is what is kept of it
+pub kept_of : (conditions : List Condition) (asked s : List ℕ) (o : Option ℕ) (offset : ℕ) (b : Bool) → asked ≡ s → o ≡ Some offset → SaysAllMetBy conditions (outlines_in asked o) b → IsKept conditions s (record { key = offset; value = b })
+kept_of conditions asked s o offset b same is says = λ below. ∣ subst (λ x. SaysAllMetBy conditions (outlines_in x (Some offset)) b) same (subst (λ x. SaysAllMetBy conditions (outlines_in asked x) b) is says) ∣₁

@@ -4,3 +4,7 @@ mod SignLaws
 mod DigitLaws
 mod ScaleLaws
 mod BoundLaws
+mod PlainLaws
+mod OutlineLaws
+mod AmongLaws
+mod OtherLaws

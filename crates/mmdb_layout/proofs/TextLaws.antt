@@ -1,5 +1,5 @@
 -- A text among texts.
-use Rattle.std.proofs.Common.{◌≡◌, ◌⊎◌, ℕ, zero, suc, arith, ◌+◌, ◌<◌, List, [], ◌∷◌, ◌++◌, map, length, take, get_or, sym, ap, ◌∙◌, subst, inl, inr}
+use Rattle.std.proofs.Common.{◌≡◌, ◌⊎◌, ℕ, zero, suc, arith, ◌+◌, ◌<◌, List, [], ◌∷◌, ◌++◌, map, length, take, get_or, refl, sym, ap, ◌∙◌, subst, inl, inr}
 use Rattle.std.proofs.lemmas.List.{take_more, map-append, get_or-map, length-map}
 use Rattle.std.proofs.lemmas.List.Elements.{Contains-push_cases}
 use Rattle.std.specs.List.{Contains}
@@ -12,6 +12,20 @@ pub none_more : {X : Type 0} (f : X → List ℕ) (xs : List X) (i : ℕ) (d : X
 none_more f xs i d text within other none here =
     let more : map f (take (i + 1) xs) ≡ map f (take i xs) ++ (f (get_or xs i d) ∷ []) = ap (map f) (take_more xs i d within) ∙ map-append f (take i xs) (get_or xs i d ∷ []) in
     elim (Contains-push_cases (map f (take i xs)) (f (get_or xs i d)) text (subst (λ l. Contains l text) more here)) [ inl c ↦ none c | inr e ↦ other e ]
+
+-- one of the texts of which something holds
+pub at_some : {X : Type 0} (P : List ℕ → Type 0) (f : X → List ℕ) (xs : List X) (i : ℕ) (d : X) → i < length xs → P (f (get_or xs i d))
+    → (text : List ℕ) × Contains (map f xs) text × P text
+at_some P f xs i d within here = (f (get_or xs i d), at_one f xs i d (f (get_or xs i d)) within refl, here)
+
+pub none_of_more : {X : Type 0} (P : List ℕ → Type 0) (f : X → List ℕ) (xs : List X) (i : ℕ) (d : X) → i < length xs → (P (f (get_or xs i d)) → ⊥)
+    → ((text : List ℕ) × Contains (map f (take i xs)) text × P text → ⊥) → (text : List ℕ) × Contains (map f (take (i + 1) xs)) text × P text → ⊥
+none_of_more P f xs i d within other none some =
+    let more : map f (take (i + 1) xs) ≡ map f (take i xs) ++ (f (get_or xs i d) ∷ []) = ap (map f) (take_more xs i d within) ∙ map-append f (take i xs) (get_or xs i d ∷ []) in
+    elim (Contains-push_cases (map f (take i xs)) (f (get_or xs i d)) some.0 (subst (λ l. Contains l some.0) more some.1)) [
+      | inl c ↦ none (some.0, c, some.2)
+      | inr e ↦ other (subst P (sym e) some.2)
+    ]
 
 -- ---- a text that has others in it
 

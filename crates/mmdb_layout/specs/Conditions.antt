@@ -1,9 +1,10 @@
 -- Which records meet conditions on the values at paths in them.
-use Rattle.std.specs.Prelude.{◌≡◌, ◌⊎◌, ℕ, ◌+◌, ◌%◌, ◌<◌, nat_eq, if◌then◌else◌, List, [], ◌∷◌, ◌++◌, length, slice_index, take, codes, map, Option, Some, None, Bool, true, false, not}
+use Rattle.std.specs.Prelude.{◌≡◌, ◌⊎◌, ℕ, ◌+◌, ◌%◌, ◌<◌, nat_eq, if◌then◌else◌, List, [], ◌∷◌, ◌++◌, length, slice_index, take, codes, Option, Some, None, Bool, true, false, not, from_bits}
 use Rattle.std.specs.Borrow.{Bor}
+use Rattle.std.specs.Float.{binary32, binary64}
 use Rattle.std.specs.List.{Contains}
 use Rattle.memchr.specs.Find.{OccursAt}
-use Rattle.mmdb_format.specs.Contents.{text}
+use Rattle.mmdb_format.specs.Contents.{text, signed32, number16, number32, number64, number128, double_bits, float_bits}
 use Rattle.mmdb_format.specs.Unfolding.{Tree, scalar, array, table}
 use Rattle.mmdb_reader.specs.declared.path.PathElement.{PathElement}
 use Rattle.mmdb_json.specs.Texts.{IsCompact}
@@ -12,7 +13,8 @@ use Rattle.mmdb_layout.specs.declared.condition.Requirement.{Requirement}
 use Rattle.mmdb_layout.specs.declared.condition.Requirement.TheVariants.{OneOf, NoneOf, Part, Present, Above, Below}
 use Rattle.mmdb_layout.specs.declared.number.Side.{Side}
 use Rattle.mmdb_layout.specs.declared.number.Side.TheVariants as sides
-use Rattle.mmdb_layout.specs.Numbers.{SaysBeyondAll}
+use Rattle.mmdb_layout.specs.Texts.{texts_in}
+use Rattle.mmdb_layout.specs.Numbers.{SaysBeyondAll, IsSameNumber, IsReadAsFloat}
 
 -- a text is one of the texts
 abbrev pub IsOneOf : List ℕ → List (List ℕ) → Type 0
@@ -23,13 +25,41 @@ abbrev pub SaysOneOf : List ℕ → List (List ℕ) → Bool → Type 0
 SaysOneOf own texts true = IsOneOf own texts
 SaysOneOf own texts false = ¬ IsOneOf own texts
 
--- A Bool says whether a value is one of the texts: a text as it is, and any other scalar by its JSON. An array or a map is none
--- of them.
+-- A text is a number of JSON that a value is: of a double or a float one that is read as it, and of an integer that number itself,
+-- with or without a fraction or an exponent. Other values are no numbers, nor are infinities and NaN.
+abbrev pub IsNumberOf : Tree → List ℕ → List ℕ → Type 0
+IsNumberOf (scalar (double_bits n)) json other = IsReadAsFloat binary64 (from_bits binary64 n) other
+IsNumberOf (scalar (float_bits n)) json other = IsReadAsFloat binary32 (from_bits binary32 n) other
+IsNumberOf (scalar (signed32 _)) json other = IsSameNumber json other
+IsNumberOf (scalar (number16 _)) json other = IsSameNumber json other
+IsNumberOf (scalar (number32 _)) json other = IsSameNumber json other
+IsNumberOf (scalar (number64 _)) json other = IsSameNumber json other
+IsNumberOf (scalar (number128 _)) json other = IsSameNumber json other
+IsNumberOf _ json other = ⊥
+
+-- one of the texts is
+abbrev pub HasNumberOf : Tree → List ℕ → List (List ℕ) → Type 0
+HasNumberOf v json texts = (other : List ℕ) × Contains texts other × IsNumberOf v json other
+
+abbrev pub SaysNumberOf : Tree → List ℕ → List (List ℕ) → Bool → Type 0
+SaysNumberOf v json texts true = HasNumberOf v json texts
+SaysNumberOf v json texts false = ¬ HasNumberOf v json texts
+
+-- one of the texts is the JSON of a value, or a number that it is
+abbrev pub IsWrittenBy : Tree → List ℕ → List (List ℕ) → Type 0
+IsWrittenBy v json texts = IsOneOf json texts ⊎ HasNumberOf v json texts
+
+abbrev pub SaysWrittenBy : Tree → List ℕ → List (List ℕ) → Bool → Type 0
+SaysWrittenBy v json texts true = IsWrittenBy v json texts
+SaysWrittenBy v json texts false = ¬ IsWrittenBy v json texts
+
+-- A Bool says whether a value is one of the texts: a text as it is, a number as a number, and any other scalar by its JSON. An
+-- array or a map is none of them.
 abbrev pub SaysAmong : Tree → List (List ℕ) → Bool → Type 0
 SaysAmong (scalar (text own)) texts b = SaysOneOf own texts b
 SaysAmong (array _) texts b = b ≡ false
 SaysAmong (table _) texts b = b ≡ false
-SaysAmong v texts b = (json : List ℕ) × IsCompact v json × SaysOneOf json texts b
+SaysAmong v texts b = (json : List ℕ) × IsCompact v json × SaysWrittenBy v json texts b
 
 -- the text that a value is, if it is one
 abbrev pub text_of : Tree → Option (List ℕ)
@@ -113,7 +143,7 @@ wants Below is_found = is_found
 
 -- the texts of a condition
 abbrev pub texts_of : Condition → List (List ℕ)
-texts_of condition = map (λ t. t.now) condition.texts.items
+texts_of condition = texts_in condition.texts
 
 -- a Bool says whether a condition is met, by what is read along paths
 abbrev pub SaysMetBy : Condition → (List PathElement → Option (Option Tree)) → Bool → Type 0

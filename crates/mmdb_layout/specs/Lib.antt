@@ -1,8 +1,11 @@
 -- What has to be believed: what contracts of public items name.
+pub mod Outlines
 pub mod Reading
+pub mod Texts
 pub mod Conditions
 pub mod Numbers
 pub mod Choices
 -- What only contracts of private functions and proofs name.
 pub mod Working
+pub mod KeptAnswers
 pub mod Digits

@@ -1,12 +1,24 @@
 -- Numbers as JSON writes them (RFC 8259, section 6), and which of two is less.
-use Rattle.std.specs.Prelude.{ℕ, ◌+◌, ◌*◌, ◌^◌, ◌<◌, ◌==◌, List, Bool, true, false}
-use Rattle.std.specs.List.{All}
+use Rattle.std.specs.Prelude.{◌≡◌, ℕ, ◌+◌, ◌*◌, ◌^◌, ◌<◌, ◌==◌, nat_lt, List, Bool, true, false, not, Some}
+use Rattle.std.specs.Char.{digit_value}
+use Rattle.std.specs.List.{All, filter, list_all}
+use Rattle.std.specs.Float.{Float, Format, float_is_finite}
+use Rattle.std.specs.Float.Ieee.{eq}
+use Rattle.std.specs.Float.Parse.{parse_float}
 use Rattle.std.specs.Str.Parse.{digits_value}
 use Rattle.fast_float.specs.Text.{Parts, scan, minus, digits_of, tens_up, tens_down}
 use Rattle.json.specs.Print.{IsNumber}
 use Rattle.json.specs.Word.{head, after_minus}
 use Rattle.mmdb_layout.specs.declared.number.Side.{Side}
 use Rattle.mmdb_layout.specs.declared.number.Side.TheVariants.{Above, Below}
+
+-- a text is digits alone
+abbrev pub is_digits : List ℕ → Bool
+is_digits text = list_all (λ c. nat_lt (digit_value c) 10) text
+
+-- those of some texts that are not
+abbrev pub not_digits : List (List ℕ) → List (List ℕ)
+not_digits texts = filter (λ t. not (is_digits t)) texts
 
 -- a minus comes first
 abbrev pub is_negative : List ℕ → Bool
@@ -52,3 +64,18 @@ pub record IsBeyond (side : Side) (own bound : List ℕ) : Type 0 where
 abbrev pub SaysBeyondAll : Side → List ℕ → List (List ℕ) → Bool → Type 0
 SaysBeyondAll side own bounds true = All (IsBeyond side own) bounds
 SaysBeyondAll side own bounds false = ¬ All (IsBeyond side own) bounds
+
+-- the texts are numbers, of which neither is less than the other
+pub record IsSameNumber (text other : List ℕ) : Type 0 where
+  pub numeric : IsNumeric text
+  pub other_numeric : IsNumeric other
+  pub not_less : ¬ IsLess text other
+  pub not_greater : ¬ IsLess other text
+
+-- A text is a number of JSON, and the float nearest to it equals a finite one. 0 and -0 are equal.
+pub record IsReadAsFloat (f : Format) (x : Float) (text : List ℕ) : Type 0 where
+  pub number : IsNumber text
+  pub finite : float_is_finite x ≡ true
+  pub nearest : Float
+  pub is_nearest : parse_float f text ≡ Some nearest
+  pub equal : eq nearest x ≡ true

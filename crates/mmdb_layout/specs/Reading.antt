@@ -1,25 +1,22 @@
 -- What is read along a path in a record, and in the first of several that has a value there.
-use Rattle.std.specs.Prelude.{◌≡◌, ℕ, List, [], ◌∷◌, Option, Some, None, option_map, true, false, Result, Ok, Err}
+use Rattle.std.specs.Prelude.{◌≡◌, ℕ, List, [], ◌∷◌, Option, Some, None, option_map, false, Result, Ok, Err}
 use Rattle.std.specs.declared.convert.AsSlice.{Ghosts}
 use Rattle.mmdb_format.specs.Unfolding.{Tree}
 use Rattle.mmdb_format.specs.declared.error.MaxMindDbError.{MaxMindDbError}
 use Rattle.mmdb_decode.specs.Errors.{Fails}
-use Rattle.mmdb_value.specs.AnyValue.{value_at}
 use Rattle.mmdb_value.specs.Values.{value_tree}
 use Rattle.mmdb_value.specs.declared.any_value.Value.{Value}
 use Rattle.mmdb_reader.specs.Found.{section_asked, offset_found}
-use Rattle.mmdb_reader.specs.Selecting.{answer_along}
+use Rattle.mmdb_found.specs.Found.{value_found}
+use Rattle.mmdb_layout.specs.Outlines.{outline_along}
 use Rattle.mmdb_reader.specs.declared.lookup_result.LookupResult.{LookupResult}
 use Rattle.mmdb_reader.specs.declared.path.PathElement.{PathElement}
 
--- what is read along a path from the offset of a record; nothing where the way or the value can't be read
-abbrev pub read_at : List PathElement → List ℕ → ℕ → Option (Option Tree)
-read_at path s offset = answer_along path true (value_at true) s offset
-
--- what is read along a path in the record at an offset, where there is one
+-- What is read along a path in the record at an offset, where there is one: a value, or nothing where the path leads
+-- nowhere. There is no answer where the way or the value can't be read.
 abbrev pub reads_in : List ℕ → Option ℕ → List PathElement → Option (Option Tree)
 reads_in s None path = Some None
-reads_in s (Some offset) path = read_at path s offset
+reads_in s (Some offset) path = value_found path s offset
 
 -- what is read along a path in the record that a lookup found
 abbrev pub reads_found : {S : Type 0} {G : Ghosts S ℕ} → LookupResult S G → List PathElement → Option (Option Tree)
@@ -46,3 +43,19 @@ first_read_of (answer ∷ answers) path = or_next (reads_of answer path) (first_
 abbrev pub IsReadAs : Option (Option Tree) → Result (Option Value) MaxMindDbError → Type 0
 IsReadAs answer (Ok value) = answer ≡ Some (option_map value_tree value)
 IsReadAs answer (Err e) = Fails false e answer
+
+-- the same of what a condition reads: of a map or an array no more than its header
+abbrev pub outlines_in : List ℕ → Option ℕ → List PathElement → Option (Option Tree)
+outlines_in s None path = Some None
+outlines_in s (Some offset) path = outline_along path s offset
+
+abbrev pub outlines_found : {S : Type 0} {G : Ghosts S ℕ} → LookupResult S G → List PathElement → Option (Option Tree)
+outlines_found found path = outlines_in (section_asked found) (offset_found found) path
+
+abbrev pub outlines_of : {S : Type 0} {G : Ghosts S ℕ} → Option (LookupResult S G) → List PathElement → Option (Option Tree)
+outlines_of None path = Some None
+outlines_of (Some found) path = outlines_found found path
+
+abbrev pub first_outline_of : {S : Type 0} {G : Ghosts S ℕ} → List (Option (LookupResult S G)) → List PathElement → Option (Option Tree)
+first_outline_of [] path = Some None
+first_outline_of (answer ∷ answers) path = or_next (outlines_of answer path) (first_outline_of answers path)

@@ -1,9 +1,8 @@
 -- What contracts of private functions and proofs name.
 use Rattle.std.specs.Prelude.{◌≡◌, ℕ, List, Bool, true, false}
-use Rattle.mmdb_cache.specs.declared.table.Memo.{Memo}
-use Rattle.mmdb_format.specs.Unfolding.{Tree, array, table}
-use Rattle.mmdb_layout.specs.declared.choice.Choice.{Choice}
-use Rattle.mmdb_layout.specs.Choices.{no_record, IsKept, IsOfSection}
+use Rattle.std.specs.Str.Parse.{AllDigits}
+use Rattle.mmdb_format.specs.Contents.{signed32, number16, number32, number64, number128}
+use Rattle.mmdb_format.specs.Unfolding.{Tree, scalar, array, table}
 
 -- a value is an array or a map
 abbrev pub is_container : Tree → Bool
@@ -11,10 +10,15 @@ is_container (array _) = true
 is_container (table _) = true
 is_container _ = false
 
--- an answer is of no record
-abbrev pub IsOfNone : Memo ℕ Bool → Type 0
-IsOfNone answer = answer.key ≡ no_record
+-- a value is a whole number by its type
+abbrev pub is_whole : Tree → Bool
+is_whole (scalar (signed32 _)) = true
+is_whole (scalar (number16 _)) = true
+is_whole (scalar (number32 _)) = true
+is_whole (scalar (number64 _)) = true
+is_whole (scalar (number128 _)) = true
+is_whole _ = false
 
--- with one more answer a choice is of the data section that it was of, if the answer is
-abbrev pub Keeps : Choice → Memo ℕ Bool → Choice → Type 0
-Keeps old answer new = (s : List ℕ) → IsKept old.conditions.now s answer → IsOfSection old s → IsOfSection new s
+-- it is, and its JSON is digits alone
+abbrev pub IsOfDigits : Tree → List ℕ → Type 0
+IsOfDigits v json = (is_whole v ≡ true) × AllDigits 10 json

@@ -1,13 +1,14 @@
 //! Fields that no record has: a path that is misspelt gives empty cells without a word.
 use crate::database::Found;
 use mmdb_console::{Console, ProgramError, Similar, line_of, path_with_index, path_with_key};
-use mmdb_reader::{MaxMindDbError, PathElement};
+use mmdb_found::value_along;
+use mmdb_reader::PathElement;
 use mmdb_value::{Decode, Decoder, Value};
 use std::alloc::{AllocError, Global};
 use std::io::Write;
 
 /// Among the paths of how many records what was meant is looked for.
-const MOST_RECORDS: usize = 64;
+pub const MOST_RECORDS: usize = 64;
 
 /// How many paths of a record are looked at.
 const MOST_PATHS: usize = 4096;
@@ -106,26 +107,39 @@ fn offer_records(
     Ok(())
 }
 
-/// What is said of a field that no such record has, with a path that may be meant, of those of some records.
-pub fn absent_text(
+/// The path that may be meant by another one, of those of some records, if one is.
+pub fn similar_path(
     alloc: Global,
-    which: &str,
-    name: &str,
+    path: &str,
     records: &[RecordAt<'_>],
-) -> Result<String, AllocError> {
-    let mut similar = Similar::new(alloc, name)?;
-    if name.len() <= MOST_BYTES {
+) -> Result<Option<String>, AllocError> {
+    let mut similar = Similar::new(alloc, path)?;
+    if path.len() <= MOST_BYTES {
         offer_records(alloc, records, &mut similar)?;
     }
     match similar.best() {
-        Some(best) => format!(in alloc; "mmdb: no {which} has {name}; did you mean {best}?"),
-        None => format!(in alloc; "mmdb: no {which} has {name}"),
+        Some(best) => Ok(Some(String::from_str(alloc, best)?)),
+        None => Ok(None),
+    }
+}
+
+/// What is said of a field that these do not have (`no record`), with a path that may be meant, of those of some records.
+pub fn absent_text(
+    alloc: Global,
+    whose: &str,
+    name: &str,
+    records: &[RecordAt<'_>],
+) -> Result<String, AllocError> {
+    let similar = similar_path(alloc, name, records)?;
+    match similar.as_deref() {
+        Some(best) => format!(in alloc; "mmdb: {whose} has {name}; did you mean {best}?"),
+        None => format!(in alloc; "mmdb: {whose} has {name}"),
     }
 }
 
 // Whether a record has a value at a path. One that can't be read is reported where it is written.
 fn has_value(alloc: Global, found: &Found<'_>, path: &[PathElement<'_>]) -> bool {
-    let value: Result<Option<Value<'_>>, MaxMindDbError> = found.decode_path(alloc, path);
+    let value = value_along(alloc, found, path);
     !matches!(value, Ok(None))
 }
 
@@ -182,7 +196,7 @@ impl FieldsMet {
                 offset: *offset,
             })?;
         }
-        absent_text(self.alloc, "record", name, records.as_slice())
+        absent_text(self.alloc, "no record", name, records.as_slice())
     }
 
     /// Says of each field that no record had, of those of a data section that were looked at, after what was written. An

@@ -1,4 +1,7 @@
 //! Databases whose bytes are those of a file.
+ghost use Rattle.std.specs.Prelude.{◌≡◌, IfOk};
+ghost use Rattle.mmdb_reader.specs.Enumeration.{database_walked};
+
 use mmdb_console::{Console, opened, path_elsewhere};
 use mmdb_reader::{IpNetwork, LookupResult, MaxMindDbError, Reader, Within, WithinOptions};
 use std::alloc::Global;
@@ -85,12 +88,14 @@ pub fn open_at<R: Files, O: Write, E: Write>(
     )
 }
 
-/// The networks of a range, or all.
+/// The networks of a range of a database, or all.
 pub fn networks_in(
     alloc: Global,
     database: &Database,
     range: Option<IpNetwork>,
-) -> Result<Networks<'_>, MaxMindDbError> {
+) -> Result<Networks<'_>, MaxMindDbError>
+    ensures { IfOk result (λ networks. database_walked networks ≡ database.now) }
+{
     match range {
         Some(range) => database.within(alloc, range, WithinOptions::default()),
         None => database.networks(alloc, WithinOptions::default()),

@@ -4,7 +4,7 @@ use crate::fields::{ChosenFields, DefaultName, fields_of};
 use json::{Token, Writer};
 use mmdb_arguments::NoRequest;
 use mmdb_filter::put_csv_cell;
-use mmdb_found::write_found;
+use mmdb_found::{value_along, write_found};
 use mmdb_json::{RecordTexts, compact};
 use mmdb_reader::{MaxMindDbError, PathElement};
 use mmdb_value::Value;
@@ -77,7 +77,7 @@ fn put_value_at(
     row: &mut Vec<u8>,
 ) -> Result<(), MaxMindDbError> {
     let value: Option<Value<'_>> = match found {
-        Some(found) => found.decode_path(alloc, path)?,
+        Some(found) => value_along(alloc, found, path)?,
         None => None,
     };
     let put = put_value(alloc, value.as_ref(), row);
@@ -102,7 +102,7 @@ fn put_cells(
     Ok(row.push(b'\n')?)
 }
 
-/// A line of a network and the cells of each answer. Fails as `decode_path` of a `Value` does.
+/// A line of a network and the cells of each answer. Fails as `value_along` does.
 pub fn line_of_cells(
     alloc: Global,
     fields: &ChosenFields<'_>,
@@ -163,8 +163,7 @@ fn write_value(
     }
 }
 
-/// Adds the values at some paths to an object, each null where there is no record. Fails as `decode_path` of a `Value`
-/// does.
+/// Adds the values at some paths to an object, each null where there is no record. Fails as `value_along` does.
 pub fn write_values(
     alloc: Global,
     fields: &ChosenFields<'_>,
@@ -232,7 +231,7 @@ impl Layout<'_> {
         Ok(row)
     }
 
-    /// The row of a record, with an empty network. Fails as `decode_path` of a `Value` does.
+    /// The row of a record, with an empty network. Fails as `value_along` does.
     pub fn row(&self, alloc: Global, found: &Found<'_>) -> Result<Vec<u8>, MaxMindDbError> {
         match self {
             Layout::Cells(fields) => line_of_cells(alloc, fields, "", &[Some(found)]),

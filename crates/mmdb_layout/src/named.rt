@@ -130,20 +130,21 @@ fn is_taken(key: &str, beside: &str, keys: &[String]) -> bool {
 // What the answers of a database are called after others.
 fn key_of(
     alloc: Global,
-    named: &NamedDatabase<'_>,
+    name: &str,
+    database: &Database,
     beside: &str,
     keys: &[String],
 ) -> Result<String, AllocError> {
-    let own = named.database.metadata().database_type.as_str();
+    let own = database.metadata().database_type.as_str();
     if !is_taken(own, beside, keys) {
         return String::from_str(alloc, own);
     }
-    let mut key = String::from_str(alloc, named.name)?;
+    let mut key = String::from_str(alloc, name)?;
     for number in 2..keys.len().saturating_add(4) {
         if !is_taken(key.as_str(), beside, keys) {
             break;
         }
-        key = format!(in alloc; "{} ({number})", named.name)?;
+        key = format!(in alloc; "{name} ({number})")?;
     }
     Ok(key)
 }
@@ -157,7 +158,22 @@ pub fn keys_of(
 ) -> Result<Vec<String>, AllocError> {
     let mut keys = Vec::new(alloc);
     for named in databases {
-        let key = key_of(alloc, named, beside, keys.as_slice())?;
+        let key = key_of(alloc, named.name, &named.database, beside, keys.as_slice())?;
+        keys.push(key)?;
+    }
+    Ok(keys)
+}
+
+/// The same of databases with the names that were given.
+pub fn keys_of_all(
+    alloc: Global,
+    names: &[&str],
+    databases: &[Database],
+    beside: &str,
+) -> Result<Vec<String>, AllocError> {
+    let mut keys = Vec::new(alloc);
+    for (name, database) in names.iter().zip(databases) {
+        let key = key_of(alloc, *name, database, beside, keys.as_slice())?;
         keys.push(key)?;
     }
     Ok(keys)

@@ -4,7 +4,8 @@ ghost use Rattle.std.specs.Option.{SomeIff};
 ghost use Rattle.std.specs.Str.Parse.{AllDigits, digits_value};
 ghost use Rattle.fast_float.specs.Text.{digits_of, tens_up, tens_down};
 ghost use Rattle.json.specs.Word.{after_minus};
-ghost use Rattle.mmdb_layout.specs.Numbers.{is_negative, IsNumeric, IsSmaller, IsLessBy, IsBeyond, SaysBeyondAll};
+ghost use Rattle.std.specs.Float.{binary32, binary64};
+ghost use Rattle.mmdb_layout.specs.Numbers.{is_negative, IsNumeric, IsSmaller, IsLessBy, IsBeyond, SaysBeyondAll, IsSameNumber, IsReadAsFloat};
 ghost use Rattle.mmdb_layout.specs.Digits.{IsReadAs, AreDigitsOf};
 
 use fast_float::Numeral;
@@ -216,4 +217,61 @@ pub fn is_comparable(text: &str) -> bool
     ensures { IsTrue result ↔ IsNumeric text.now }
 {
     number_of(text).is_some()
+}
+
+/// Whether a text is digits alone.
+pub(crate) fn are_digits(text: &[u8]) -> bool
+    ensures { IsTrue result ↔ AllDigits 10 text.now }
+{
+    for byte in text {
+        if !byte.is_ascii_digit() {
+            return false;
+        }
+    }
+    true
+}
+
+/// Whether two texts are the same number.
+pub(crate) fn is_same_number(alloc: Global, own: &str, other: &str) -> Result<bool, AllocError>
+    ensures { IfOk result (λ b. IsTrue b ↔ IsSameNumber own.now other.now) }
+{
+    // digits alone are the same number only where they are the same text
+    if are_digits(other.as_bytes()) && are_digits(own.as_bytes()) {
+        return Ok(own == other && is_comparable(own));
+    }
+    let Some(other) = number_of(other) else {
+        return Ok(false);
+    };
+    let Some(own) = number_of(own) else {
+        return Ok(false);
+    };
+    Ok(!is_less(alloc, &own, &other)? && !is_less(alloc, &other, &own)?)
+}
+
+/// Whether a text is a number of JSON that is read as this double.
+pub(crate) fn is_f64(x: f64, text: &str) -> bool
+    ensures { IsTrue result ↔ IsReadAsFloat binary64 x text.now }
+{
+    if !x.is_finite() || !json::is_number(text) {
+        return false;
+    }
+    let read: Result<f64, fast_float::Error> = fast_float::parse(text);
+    match read {
+        Ok(read) => read == x,
+        Err(_) => false,
+    }
+}
+
+/// The same of a float.
+pub(crate) fn is_f32(x: f32, text: &str) -> bool
+    ensures { IsTrue result ↔ IsReadAsFloat binary32 x text.now }
+{
+    if !x.is_finite() || !json::is_number(text) {
+        return false;
+    }
+    let read: Result<f32, fast_float::Error> = fast_float::parse(text);
+    match read {
+        Ok(read) => read == x,
+        Err(_) => false,
+    }
 }

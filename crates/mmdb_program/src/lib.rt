@@ -1,6 +1,7 @@
 //! The program `mmdb`: what people ask of databases.
 #![tactic(auto)]
 
+mod output;
 mod program;
 
 pub use mmdb_cmd_show::info;

@@ -1,4 +1,5 @@
 //! What the program does with its arguments.
+use crate::output::run_to_file;
 use mmdb_arguments::{ArgumentMessage, NoRequest, Request, request_of};
 use mmdb_cmd_build::build;
 use mmdb_cmd_diff::diff;
@@ -9,11 +10,11 @@ use mmdb_cmd_show::{describe, show, verify};
 use mmdb_console::{
     BAD_ARGUMENTS, Console, DONE, FAILED, Io, NO_MEMORY, Pace, Paced, ProgramError,
 };
+use mmdb_files::SharedFiles;
 use mmdb_filter::Live;
 use std::alloc::Global;
 use std::env::Env;
 use std::io::Write;
-use std::rt::Files;
 use std::time::Clock;
 
 // Writes a message in the place of a request, and answers the status.
@@ -26,9 +27,13 @@ fn put_message<O: Write, E: Write>(
         let _ = console.errors.write_all(text);
         return BAD_ARGUMENTS;
     }
-    match console.out.write_all(text) {
-        Ok(()) => DONE,
-        Err(_) => FAILED,
+    match console.put(text) {
+        Ok(()) => console.end(DONE),
+        Err(error) => {
+            console.report_last("", &error);
+            drop(error);
+            FAILED
+        }
     }
 }
 
@@ -80,7 +85,7 @@ fn status_of<O: Write, E: Write>(
 }
 
 // Does what is requested.
-fn done_of<R: Files + Env + Clock, I: Live, O: Write, E: Pace>(
+fn done_of<R: SharedFiles + Env + Clock, I: Live, O: Write, E: Pace>(
     rt: &R,
     request: &Request<'_>,
     input: &mut I,
@@ -99,8 +104,8 @@ fn done_of<R: Files + Env + Clock, I: Live, O: Write, E: Pace>(
     }
 }
 
-// Does what is requested, and answers the status.
-fn run_request<R: Files + Env + Clock, I: Live, O: Write, E: Pace>(
+/// Does what is requested, and answers the status after all is written. What can't be written is reported once.
+pub(crate) fn run_to_output<R: SharedFiles + Env + Clock, I: Live, O: Write, E: Pace>(
     rt: &R,
     request: &Request<'_>,
     input: &mut I,
@@ -109,8 +114,31 @@ fn run_request<R: Files + Env + Clock, I: Live, O: Write, E: Pace>(
     let done = done_of(rt, request, input, console);
     console.clear_progress();
     let status = status_of(&done, subject_of(request), console);
+    let is_reported = matches!(&done, Err(ProgramError::Write(_)));
     drop(done);
-    status
+    if is_reported {
+        status
+    } else {
+        console.end(status)
+    }
+}
+
+// Does what is requested, to standard output or a file, and answers the status.
+fn run_request<R: SharedFiles + Env + Clock, I: Live, O: Write, E: Pace>(
+    rt: &R,
+    request: &Request<'_>,
+    input: &mut I,
+    console: &mut Console<'_, O, E>,
+) -> u8 {
+    match request.output() {
+        Some(path) => {
+            let done = run_to_file(rt, request, path, input, console);
+            let status = status_of(&done, path, console);
+            drop(done);
+            status
+        }
+        None => run_to_output(rt, request, input, console),
+    }
 }
 
 /// What the program does with its arguments, its own name first, and the status that it ends with.
@@ -118,7 +146,7 @@ fn run_request<R: Files + Env + Clock, I: Live, O: Write, E: Pace>(
 /// 0: done. 1: an error, which is reported on `errors` with the file, the stream or the argument. 2: a usage error; no file was
 /// opened, unless for a column that the first line has not, or where `show` has no address. 6: an address has no record, or a
 /// path leads nowhere in it. 7: two files differ, where that was asked. Faults of `errors` change no status.
-pub fn run<R: Files + Env + Clock, I: Live, O: Write, E: Write>(
+pub fn run<R: SharedFiles + Env + Clock, I: Live, O: Write, E: Write>(
     rt: &R,
     alloc: Global,
     arguments: &[String],

@@ -13,6 +13,7 @@ mod ShownLemmas
 mod ListingSteps
 mod StackLemmas
 mod RangeLemmas
+mod FewLemmas
 mod ItemLemmas
 mod EmptyLemmas
 pub mod FindingLemmas

@@ -1,9 +1,9 @@
 -- Where a path leads inside a record, and what is read there.
-use Rattle.std.specs.Prelude.{◌≡◌, ℕ, ◌-◌, ◌^◌, ◌==◌, ℤ, pos, negsuc, List, [], ◌∷◌, Option, Some, None, Bool, true, false, if◌then◌else◌, option_map}
+use Rattle.std.specs.Prelude.{◌≡◌, ℕ, ◌-◌, ◌^◌, ◌==◌, ℤ, pos, negsuc, List, [], ◌∷◌, Option, Some, None, Bool, true, false, ◌||◌, if◌then◌else◌, option_map}
 use Rattle.mmdb_decode.specs.Reading.{Meaning, given, followed, mapped}
 use Rattle.mmdb_decode.specs.Errors.{answer}
 use Rattle.mmdb_decode.specs.State.{State, begin, decoded}
-use Rattle.mmdb_decode.specs.Selecting.{at_key, at_element, from_front, from_end}
+use Rattle.mmdb_decode.specs.Selecting.{at_key, at_element, from_front, from_end, is_other_than_map, is_other_than_array}
 use Rattle.mmdb_reader.specs.declared.path.PathElement.{PathElement}
 use Rattle.mmdb_reader.specs.declared.path.PathElement.TheVariants.{Key, Index, IndexFromEnd}
 
@@ -58,6 +58,28 @@ LeadsNowhere path s p = (σ : State) × (decoded true (selected path) (begin s p
 abbrev pub HasNone : List PathElement → List ℕ → Option ℕ → Type 0
 HasNone path s None = Unit {0}
 HasNone path s (Some offset) = LeadsNowhere path s offset
+
+-- whether a step meets a value of another type: a key no map, an index no array
+abbrev pub meets_at_step : PathElement → State → Bool
+meets_at_step (Key key) = is_other_than_map
+meets_at_step (Index i) = is_other_than_array
+meets_at_step (IndexFromEnd i) = is_other_than_array
+
+-- what holds of the place to which a step leads, and nothing where it leads nowhere
+abbrev pub holds_there : Option (Bool × State) → (State → Bool) → Bool
+holds_there None holds = false
+holds_there (Some (false, σ)) holds = false
+holds_there (Some (true, σ)) holds = holds σ
+
+-- whether a step of a path meets a value of another type, at a place to which the steps before it lead
+abbrev pub meets_other_type : List PathElement → State → Bool
+meets_other_type [] σ = false
+meets_other_type (e ∷ path) σ = meets_at_step e σ || holds_there (decoded true (at_step e) σ) (meets_other_type path)
+
+-- the same from the offset of a lookup's result, if it has one
+abbrev pub meets_other_from : List PathElement → List ℕ → Option ℕ → Bool
+meets_other_from path s None = false
+meets_other_from path s (Some offset) = meets_other_type path (begin s offset)
 
 -- steps of one kind with the same index or spelling
 abbrev pub IsSameStep : PathElement → PathElement → Type 0

@@ -4,9 +4,9 @@ ghost use Rattle.mmdb_decode.specs.State.{State, begin, decoded};
 ghost use Rattle.mmdb_decode.specs.Errors.{Fails, answer};
 ghost use Rattle.mmdb_reader.specs.Found.{section_asked, offset_found};
 ghost use Rattle.mmdb_reader.specs.Decoding.{DecodesTo, FailsToDecode};
-ghost use Rattle.mmdb_reader.specs.Selecting.{selected, read_along, answer_along, SelectsTo, Reaches, LeadsNowhere, HasNone};
+ghost use Rattle.mmdb_reader.specs.Selecting.{selected, read_along, answer_along, SelectsTo, Reaches, LeadsNowhere, HasNone, meets_other_from};
 
-use crate::go_along::{go_along, with_path};
+use crate::go_along::{go_along, meets_other_type, with_path};
 use crate::lookup_result::LookupResult;
 use crate::offsets::counted_from_start;
 use crate::path::PathElement;
@@ -127,6 +127,24 @@ impl<'a, S: AsSlice<u8> + Drop> LookupResult<'a, S> {
         match decode_along(alloc, self.reader.data_section(), offset, path) {
             Ok(value) => Ok(value),
             Err(error) => Err(counted_from_start(error, section_start)),
+        }
+    }
+
+    /// Whether a step of a path meets a value of another type than it goes into: a key no map, an index no array. Such a
+    /// path leads nowhere, though `decode_path` fails; where this is false it failed for another reason.
+    ///
+    /// What can't be read is no value of another type, nor is a type number above 255, or a map or an array over the
+    /// limits. It takes no memory.
+    pub fn meets_other_type(&self, path: &[PathElement<'_>]) -> bool
+        ensures { result ≡ meets_other_from path.now (section_asked self.now)
+            (offset_found self.now) }
+    {
+        match self.offset {
+            Some(offset) => {
+                let mut d = Decoder::new(self.reader.data_section(), offset);
+                meets_other_type(&mut d, path)
+            }
+            None => false,
         }
     }
 }

@@ -3,7 +3,7 @@ ghost use Rattle.std.specs.Prelude.{◌≡◌, ◌<◌, Bool, true, false, lengt
 ghost use Rattle.mmdb_format.specs.Error.{IsOfOrMemory, OfDecoding, kind_of};
 ghost use Rattle.mmdb_decode.specs.State.{decoded, GivenUp};
 ghost use Rattle.mmdb_decode.specs.Errors.{Takes, Kept};
-ghost use Rattle.mmdb_reader.specs.Selecting.{at_step, selected};
+ghost use Rattle.mmdb_reader.specs.Selecting.{at_step, selected, meets_at_step, meets_other_type as spec_meets_other_type};
 
 use crate::path::{PathElement, render_path};
 use mmdb_decode::decoder::Decoder;
@@ -54,6 +54,34 @@ pub(crate) fn go_along(d: &mut Decoder<'_>, path: &[PathElement<'_>]) -> Result<
     }
     values_bounded(d);
     Ok(true)
+}
+
+impl PathElement<'_> {
+    // Whether a value of another type is there than the step goes into.
+    fn meets_other_type(&self, d: &Decoder<'_>) -> bool
+        ensures { result ≡ meets_at_step self.now d.now }
+    {
+        match self {
+            PathElement::Key(_) => d.is_other_than_map(),
+            PathElement::Index(_) | PathElement::IndexFromEnd(_) => d.is_other_than_array(),
+        }
+    }
+}
+
+/// Whether a step of a path meets a value of another type than it goes into.
+pub(crate) fn meets_other_type(d: &mut Decoder<'_>, path: &[PathElement<'_>]) -> bool
+    ensures { result ≡ spec_meets_other_type path.now d.old }
+{
+    for before in 0..path.len() {
+        if path[before].meets_other_type(d) {
+            return true;
+        }
+        match path[before].go(d) {
+            Ok(true) => {}
+            Ok(false) | Err(_) => return false,
+        }
+    }
+    false
 }
 
 // Charges a container that is not of the type that a step wants: a limit is named before the type.

@@ -64,6 +64,15 @@ pub(crate) fn invalid(text: Text) -> MaxMindDbError
     }
 }
 
+// The error for an IPv6 range that is asked of an IPv4 database.
+fn ipv6_range_in_ipv4() -> MaxMindDbError
+    ensures { kind_of result ≡ OfInput }
+{
+    MaxMindDbError::InvalidInput {
+        message: Message::Fixed(Text::Ipv6InIpv4Range),
+    }
+}
+
 impl<S: AsSlice<u8> + Drop> Reader<S> {
     ghost use Rattle.mmdb_reader.specs.Items.{item_view, item_of_leaf, items_of};
     ghost use Rattle.mmdb_reader.specs.Listing.{finding_at, listed};
@@ -74,6 +83,7 @@ impl<S: AsSlice<u8> + Drop> Reader<S> {
     ghost use Rattle.mmdb_reader.specs.Lookup.{CanAsk};
     ghost use Rattle.mmdb_reader.specs.Enumeration.{database_walked, items_to_come, positions_reserved, ListsRange};
     ghost use Rattle.mmdb_reader.specs.Ranges.{positions_for};
+    ghost use Rattle.mmdb_reader.specs.Stops.{has_few_stops};
     ghost use Rattle.mmdb_reader.specs.Working.{IsRangeOf, finding_of_answer, FaultsAreOfDatabase};
 
     // What a leaf that leads to a number is listed with, if it is listed: a fault, or the offset of its
@@ -212,9 +222,7 @@ impl<S: AsSlice<u8> + Drop> Reader<S> {
         ensures no_other { IfErr result (λ e. (kind_of e ≡ OfInput) ⊎ (kind_of e ≡ OfMemory)) }
     {
         let Some(range) = self.range_of(network) else {
-            return Err(MaxMindDbError::InvalidInput {
-                message: Message::Fixed(Text::Ipv6InIpv4Range),
-            });
+            return Err(ipv6_range_in_ipv4());
         };
         let mut stack = Vec::with_capacity(alloc, usize::from(self.width() - range.prefix) + 1)?;
         let walker = self.walker();
@@ -250,6 +258,31 @@ impl<S: AsSlice<u8> + Drop> Reader<S> {
             IpAddr::V6(Ipv6Addr::UNSPECIFIED)
         };
         self.within(alloc, IpNetwork::new(whole, 0)?, options)
+    }
+
+    /// Whether the tree below a range leads to no more networks than its nodes can have: a walk there stops, at leaves and
+    /// at aliases, at most three times for each node of the tree, and once more. So it is where no node is reached twice;
+    /// where it is not, a list of the range may go on for as long as there are addresses. It takes as many steps at most.
+    ///
+    /// Takes all memory at once, for as many points as an address has bits. An IPv6 range asked of an IPv4 database is
+    /// `InvalidInput`; else only memory runs out.
+    pub fn has_few_networks(
+        &self,
+        alloc: Global,
+        network: IpNetwork,
+    ) -> Result<bool, MaxMindDbError>
+        ensures few { IfOk result
+            (λ few. few ≡ has_few_stops self.now (block_in self.now network)) }
+        ensures of_input { FailsAs OfInput result ↔ ¬ CanAsk self.now (ip_of network) }
+        ensures no_other { IfErr result (λ e. (kind_of e ≡ OfInput) ⊎ (kind_of e ≡ OfMemory)) }
+    {
+        let Some(range) = self.range_of(network) else {
+            return Err(ipv6_range_in_ipv4());
+        };
+        let walker = self.tree_walker();
+        let most = 3 * walker.nodes.node_count + 1;
+        let mut stack = Vec::with_capacity(alloc, walker.width)?;
+        Ok(walker.stops_at_most(range.address, range.prefix, most, &mut stack))
     }
 }
 

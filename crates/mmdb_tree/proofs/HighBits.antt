@@ -68,6 +68,10 @@ pub high-nil : (walked : WalkedTree) → high_of walked [] ≡ false
 unfolding high_of
 high-nil walked = refl
 
+pub high-is : (walked : WalkedTree) (s : List Bool) → high_of walked s ≡ leb (2 ^ 32) (number_of walked.width s)
+unfolding high_of
+high-is walked s = high-number walked.width s
+
 pub high-snoc : (walked : WalkedTree) (s : List Bool) (x : Bool) → length s < walked.width → high_of walked (s ++ x ∷ []) ≡ (high_of walked s || (x && ltb (length s + 32) walked.width))
 unfolding high_of
 high-snoc walked s x h = high_bits-snoc walked.width s x h

@@ -9,6 +9,8 @@ pub mod Visits
 mod Points
 mod Progress
 mod Sweeps
+mod Counts
+mod PointLemmas
 pub mod StopLemmas
 pub mod Narrow
 mod LevelLemmas

@@ -12,16 +12,11 @@ use Rattle.mmdb_tree.specs.Walked.{half_of, IsVerdict}
 use Rattle.mmdb_tree.specs.Working.{goes_on_from, end_from, IsPlaced, GoesOn, IsStopped, Keeps, Takes}
 use Rattle.mmdb_tree.specs.declared.walked.Point.{Point}
 use Rattle.mmdb_tree.specs.declared.record.TreeRecord.{TreeRecord}
-use Rattle.mmdb_tree.proofs.Visits.{Visit, visit, with_lead, with_lead-zero, visits_below, some_visit, below-node, below-stop, total, cut_visits, offsets_of, has_fault}
+use Rattle.mmdb_tree.proofs.Visits.{Visit, visit, with_lead, with_lead-zero, length-lead, visits_below, some_visit, below-node, below-stop, total, cut_visits, offsets_of, has_fault}
 use Rattle.mmdb_tree.proofs.Points.{visits_of_stack, visits_of_stack-push, step-node, step-stop, half-placed}
 use Rattle.mmdb_tree.proofs.Progress.{all_visits, cut-past, cut-none, cost-is, length-is, fault-is, offsets-are}
 
 -- ---- lists of visits
-
-length-lead : (lead : ℕ) (vs : List Visit) → length (with_lead lead vs) ≡ length vs
-unfolding with_lead
-length-lead lead [] = refl
-length-lead lead (v ∷ vs) = refl
 
 fault-lead : (lead : ℕ) (vs : List Visit) → has_fault (with_lead lead vs) ≡ has_fault vs
 unfolding with_lead has_fault

@@ -135,6 +135,11 @@ unfolding with_lead
 with_lead-zero [] = refl
 with_lead-zero (v ∷ vs) = ap (λ n. visit n v.end ∷ vs) (omega arith)
 
+pub length-lead : (lead : ℕ) (vs : List Visit) → length (with_lead lead vs) ≡ length vs
+unfolding with_lead
+length-lead lead [] = refl
+length-lead lead (v ∷ vs) = refl
+
 pub some-with_lead : (lead : ℕ) (vs : List Visit) → 0 < length vs → 0 < length (with_lead lead vs)
 unfolding with_lead
 some-with_lead lead [] h = absurd (omega arith)
@@ -314,3 +319,8 @@ pub visits-stops : (walked : WalkedTree) → visits_below walked walked.width 0 
 visits-stops walked =
     sym (of-below walked walked.width [] (omega arith) ∙ with_lead-zero (visits_below walked walked.width (walk walked.tree []) (high_of walked []))
     ∙ ap (λ (n : ℕ). visits_below walked walked.width n (high_of walked [])) (walk-nil walked.tree 0) ∙ ap (visits_below walked walked.width 0) (high-nil walked))
+
+-- below bits there are as many visits as stops
+pub length-below : (walked : WalkedTree) (left : ℕ) (bits : List Bool) → length bits + left ≡ walked.width → length (visits_below walked left (walk walked.tree bits) (high_of walked bits)) ≡ length (stops_below walked left bits)
+length-below walked left bits full =
+    sym (length-lead (length bits) (visits_below walked left (walk walked.tree bits) (high_of walked bits))) ∙ sym (ap length (of-below walked left bits full)) ∙ length-visits_of (stops_below walked left bits)

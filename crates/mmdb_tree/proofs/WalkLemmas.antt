@@ -27,6 +27,9 @@ step-out : (tree : SearchTree) (number : ℕ) (x : Bool) → tree.node_count ≤
 unfolding step
 step-out tree number x out = let test : ltb number tree.node_count ≡ false = le-ltb number tree.node_count out in rw test refl
 
+pub stays_outside : (tree : SearchTree) (number : ℕ) (x : Bool) → tree.node_count ≤ number → step tree number x ≡ number
+stays_outside tree number x out = step-out tree number x out
+
 -- a walk that has left the nodes stays
 pub walk-out : (tree : SearchTree) (number : ℕ) (s : List Bool) → tree.node_count ≤ number → walk_from tree number s ≡ number
 unfolding walk_from

@@ -1,8 +1,8 @@
 -- What contracts of private functions and proofs name.
-use Rattle.std.specs.Prelude.{◌≡◌, ℕ, ◌+◌, ◌^◌, ◌<◌, ◌≤◌, Bool, List, [], ◌++◌, length, slice_index_or, ◌-◌, false, get_or, slice_index, ◌∷◌, ◌⊎◌, ◌||◌, ◌&&◌, ◌==◌, not, true, nat_lt}
-use Rattle.mmdb_net.specs.Bits.{bits_of, bit_of}
+use Rattle.std.specs.Prelude.{◌≡◌, ℕ, ◌+◌, ◌^◌, ◌<◌, ◌≤◌, Bool, List, [], ◌++◌, length, slice_index_or, ◌-◌, false, get_or, slice_index, ◌∷◌, ◌⊎◌, ◌||◌, ◌&&◌, ◌==◌, not, true, nat_lt, nat_le}
+use Rattle.mmdb_net.specs.Bits.{bits_of, bit_of, number_of}
 use Rattle.mmdb_tree.specs.declared.table.Entry.{Entry}
-use Rattle.mmdb_tree.specs.Tree.{SearchTree}
+use Rattle.mmdb_tree.specs.Tree.{SearchTree, walk}
 use Rattle.mmdb_tree.specs.Descents.{Descends, Walks}
 use Rattle.std.specs.declared.net.ip_addr.IpAddr.{IpAddr}
 use Rattle.mmdb_net.specs.Address.{bits_of_address}
@@ -12,7 +12,7 @@ use Rattle.std.specs.List.{list_any}
 use Rattle.mmdb_offsets.specs.OffsetSet.{holds}
 use Rattle.mmdb_tree.specs.declared.record.TreeRecord.{TreeRecord}
 use Rattle.mmdb_tree.specs.declared.walked.Point.{Point}
-use Rattle.mmdb_tree.specs.Stops.{WalkedTree, record_in, is_ipv4_start, offset_of, at_stop, is_fault}
+use Rattle.mmdb_tree.specs.Stops.{WalkedTree, stops_below, record_in, is_ipv4_start, offset_of, at_stop, is_fault}
 
 -- Of a walk that had come to the old entry along this many bits, the new one has where it comes by one bit more.
 abbrev pub Follows : SearchTree → ℕ → Bool → Entry → Entry → Type 0
@@ -91,3 +91,19 @@ abbrev pub Takes : WalkedTree → Point → List Point → List Point → List B
 Takes walked p old new had has =
     (GoesOn walked p × (new ≡ old ++ p ∷ []) × (has ≡ had))
     ⊎ (IsStopped walked p × (is_fault (end_from walked p.number p.high) ≡ false) × (new ≡ old) × Keeps walked p had has)
+
+-- the point to which bits lead
+pub record IsPointAt (walked : WalkedTree) (bits : List Bool) (p : Point) : Type 0 where
+  pub number : p.number ≡ walk walked.tree bits
+  pub prefix : p.prefix ≡ length bits
+  pub high : p.high ≡ nat_le (2 ^ 32) (number_of walked.width bits)
+
+-- whether a walk below a point stops at most so often, wherever the point is
+abbrev pub IsFewFrom : WalkedTree → Point → ℕ → Bool → Type 0
+IsFewFrom walked p most few =
+    (bits : List Bool) → length bits ≤ walked.width → IsPointAt walked bits p
+    → few ≡ nat_le (length (stops_below walked (walked.width - length bits) bits)) most
+
+-- A point is put on the stack where the walk goes on below it.
+abbrev pub Puts : WalkedTree → Point → List Point → List Point → Type 0
+Puts walked p old new = (GoesOn walked p × (new ≡ old ++ p ∷ [])) ⊎ (IsStopped walked p × (new ≡ old))

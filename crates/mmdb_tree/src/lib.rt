@@ -2,6 +2,7 @@
 //! tables of where their first sixteen bits lead, and walks of the whole tree.
 #![tactic(auto)]
 
+mod few_stops;
 mod group;
 mod nodes;
 mod record;

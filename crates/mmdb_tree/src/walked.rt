@@ -63,7 +63,7 @@ impl Walker<'_> {
 
     // Whether the walk goes on below a point.
     #[inline(always)]
-    fn goes_on(&self, point: Point) -> bool
+    pub(crate) fn goes_on(&self, point: Point) -> bool
         ensures { MatchBool result (GoesOn (walked_by self.now) point)
             (IsStopped (walked_by self.now) point) }
     {
@@ -74,7 +74,7 @@ impl Walker<'_> {
 
     // The lower or the upper half of what lies below a point.
     #[inline(always)]
-    fn half_of(&self, point: Point, right: bool) -> Point
+    pub(crate) fn half_of(&self, point: Point, right: bool) -> Point
         requires { GoesOn (walked_by self.now) point }
         ensures { result ≡ half_of (walked_by self.now) point right }
     {
@@ -178,7 +178,7 @@ impl Walker<'_> {
 
     // This walker, with the size of its nodes' records as the caller names it.
     #[inline(always)]
-    fn with_size(&self, record_size: u16) -> Walker<'_>
+    pub(crate) fn with_size(&self, record_size: u16) -> Walker<'_>
         requires { record_size ≡ self.now.nodes.record_size }
         ensures walks { walked_by result ≡ walked_by self.now }
         ensures nodes { result.nodes.node_count ≡ self.now.nodes.node_count }

@@ -3,4 +3,6 @@ mod disk;
 mod faults;
 mod install;
 mod made;
+mod output;
 mod run;
+mod shared;

@@ -71,6 +71,19 @@ const TEXTS: &[(&str, &str)] = &[
     ("fe80::1%eth0/64", "fe80::1"),
 ];
 
+/// Texts, and the last address that stands anywhere in each. Nothing stands for none.
+const LASTS: &[(&str, &str)] = &[
+    ("Invalid user 1.2.3.4 from 8.8.8.8 port 22", "8.8.8.8"),
+    ("Invalid user 2001:db8::1 from 8.8.8.8", "8.8.8.8"),
+    ("1.2.3.4; 5.6.7.8", "5.6.7.8"),
+    ("src=8.8.8.8 dst=1.1.1.1.", "1.1.1.1"),
+    ("from 8.8.8.8 by Chrome/120.0.0.0", "8.8.8.8"),
+    ("from 8.8.8.8 by 1.2.3.256", "8.8.8.8"),
+    ("8.8.8.8", "8.8.8.8"),
+    ("12:30:45 v1.2.3.4", ""),
+    ("", ""),
+];
+
 /// Texts without an address.
 const NONE: &[&str] = &[
     "",
@@ -223,5 +236,16 @@ fn addresses_anywhere(rt: HostRuntime) {
     }
     for text in NONE {
         assert!(rt; is_right(&inside(*text, "")), "{text:?}");
+    }
+}
+
+#[test]
+fn the_last_address_anywhere(rt: HostRuntime) {
+    for (text, address) in LASTS {
+        let wanted: Option<IpAddr> = (*address).parse().ok();
+        assert!(rt;
+            address_in(Reading::LastAnywhere, text.as_bytes()) == wanted,
+            "{text:?}"
+        );
     }
 }

@@ -1,14 +1,22 @@
 //! Steps of a path: from a map or an array to one of its values.
-ghost use Rattle.std.specs.Prelude.{◌≡◌, Option, Some, None, Bool, true, false};
-ghost use Rattle.mmdb_decode.specs.Maps.{pairs_left, with_pairs_left};
+ghost use Rattle.std.specs.Prelude.{◌≡◌, Option, Some, None, Bool, true, false, is_some};
+ghost use Rattle.std.specs.Result.{result_ok};
+ghost use Rattle.mmdb_decode.specs.Arrays.{entered_array};
+ghost use Rattle.mmdb_decode.specs.Maps.{pairs_left, with_pairs_left, entered_map};
 ghost use Rattle.mmdb_decode.specs.Errors.{TakesValue, TakesUnderBudget};
-ghost use Rattle.mmdb_decode.specs.Selecting.{to_key as spec_to_key, to_element as spec_to_element, from_front, from_end, at_key, at_element};
+ghost use Rattle.mmdb_decode.specs.Selecting.{to_key as spec_to_key, to_element as spec_to_element, from_front, from_end, at_key, at_element, type_number_at, is_other_than_map as spec_is_other_than_map, is_other_than_array as spec_is_other_than_array};
 ghost use Rattle.mmdb_decode.specs.Skipping.{passes, skip_at};
 
 use super::Decoder;
+use crate::detours::{forget_array, forget_map};
 use crate::items::Entries;
 use crate::names::named;
 use mmdb_format::decode_error_kind::DecodeErrorKind;
+use mmdb_format::header::direct_at;
+use mmdb_format::kind::{ARRAY, MAP};
+
+/// The largest type number that a type can have.
+const MAX_TYPE_NUMBER: u16 = 255;
 
 impl<'de> Decoder<'de> {
     /// Goes to the value of the first pair of the map at the offset whose key has these bytes, on the same
@@ -53,6 +61,69 @@ impl<'de> Decoder<'de> {
         let found = self.to_element(end_place(index, items.remaining));
         items.give_up(self);
         found
+    }
+
+    /// Whether a value of another type than a map is at the offset, directly or through one pointer: one to which
+    /// `go_to_key` can't go. A type number above 255 is none that a type can have, and an array is entered within the
+    /// limits.
+    pub fn is_other_than_map(&self) -> bool
+        ensures { result ≡ spec_is_other_than_map self.now }
+    {
+        match self.type_number() {
+            Some(ARRAY) => self.enters_array(),
+            Some(MAP) | None => false,
+            Some(number) => number <= MAX_TYPE_NUMBER,
+        }
+    }
+
+    /// Whether a value of another type than an array is at the offset, directly or through one pointer: one to which
+    /// `go_to_index` can't go. A type number above 255 is none that a type can have, and a map is entered within the
+    /// limits.
+    pub fn is_other_than_array(&self) -> bool
+        ensures { result ≡ spec_is_other_than_array self.now }
+    {
+        match self.type_number() {
+            Some(MAP) => self.enters_map(),
+            Some(ARRAY) | None => false,
+            Some(number) => number <= MAX_TYPE_NUMBER,
+        }
+    }
+
+    // The type number of the value at the offset, or through one pointer there.
+    #[tactic(auto, unfolding(crate::specs::Selecting::type_number_at))]
+    fn type_number(&self) -> Option<u16>
+        ensures { result ≡ type_number_at self.now.section self.now.offset }
+    {
+        match direct_at(self.section, self.offset, 0) {
+            Ok(at) => Some(at.header.kind),
+            Err(_) => None,
+        }
+    }
+
+    // Whether the array at the offset can be entered.
+    fn enters_array(&self) -> bool
+        ensures { result ≡ is_some (entered_array self.now) }
+    {
+        match self.again().enter_array() {
+            Ok(items) => {
+                forget_array(items);
+                true
+            }
+            Err(_) => false,
+        }
+    }
+
+    // Whether the map at the offset can be entered.
+    fn enters_map(&self) -> bool
+        ensures { result ≡ is_some (entered_map self.now) }
+    {
+        match self.again().enter_map() {
+            Ok(entries) => {
+                forget_map(entries);
+                true
+            }
+            Err(_) => false,
+        }
     }
 
     // Goes to the value of the first pair left whose key has these bytes.

@@ -1,6 +1,8 @@
 //! Rows that are wrong, and arguments.
 use super::disk::{DEAD_LINK, Disk, PIPE};
 use super::run::{Run, run_on};
+use mmdb_vectors::base::BASE_FILE;
+use mmdb_vectors::builder::{Field, changed_file, nodes_24};
 use std::alloc::Global;
 use std::process::Abort;
 
@@ -9,12 +11,12 @@ const BAD: &[(&[&str], &str, &str)] = &[
     (
         &[],
         "{\"network\":\"1.0.0.0/33\",\"record\":1}",
-        "1: network: not a network",
+        "1: network: not a network: 1.0.0.0/33",
     ),
     (
         &[],
         "\n{\"network\":\"1.0.0.1/8\",\"record\":1}",
-        "2: network: a network with bits behind its prefix",
+        "2: network: a network with bits behind its prefix: 1.0.0.1/8",
     ),
     (
         &[],
@@ -46,7 +48,7 @@ const BAD: &[(&[&str], &str, &str)] = &[
     (
         &[],
         "{\"range\":[\"1.1.1.2\",\"x\"],\"record\":1}",
-        "1: range: not an address",
+        "1: range: not an address: x",
     ),
     (&[], "[]", "1: not an object"),
     (
@@ -67,17 +69,22 @@ const BAD: &[(&[&str], &str, &str)] = &[
     (
         &[],
         "{\"network\":\"1.0.0.0/8\",\"record\":{\"a\":[null]}}",
-        "1: record.a.[]: null, which is no value of this format",
+        "1: a.0: null, which is no value of this format",
+    ),
+    (
+        &[],
+        "{\"network\":\"1.0.0.0/8\",\"record\":{\"a.b\":[1,{\"c\":null}]}}",
+        "1: \"a.b\".1.c: null, which is no value of this format",
     ),
     (
         &[],
         "{\"network\":\"1.0.0.0/8\",\"record\":-2147483649}",
-        "1: record: not a number that this format has",
+        "1: record: not a number that this format has: -2147483649",
     ),
     (
         &["--type", "a=uint16"],
         "{\"network\":\"1.0.0.0/8\",\"record\":{\"a\":1}}\n{\"network\":\"1.0.0.0/8\",\"record\":{\"a\":65536}}",
-        "2: record.a: not of the type uint16",
+        "2: a: not of the type uint16: 65536",
     ),
     (
         &["--type", "a=string"],
@@ -87,7 +94,7 @@ const BAD: &[(&[&str], &str, &str)] = &[
     (
         &["--type", "a=bytes"],
         "{\"network\":\"1.0.0.0/8\",\"a\":\"?\"}",
-        "1: a: not of the type bytes",
+        "1: a: not of the type bytes: ?",
     ),
     (
         &[],
@@ -166,16 +173,6 @@ const BAD: &[(&[&str], &str, &str)] = &[
     ),
     (
         &["--format", "csv"],
-        "network,a\n1.0.0.0/8,\"x\r\n\"\"y\"\n2.0.0.0/8,\"x\n3.0.0.0/8,y\n",
-        "4: has a quote that nothing closes",
-    ),
-    (
-        &["--format", "csv"],
-        "network,a\n1.0.0.0/8,\"x\n2.0.0.0/8,\"y\"\n",
-        "2: has text behind a closing quote",
-    ),
-    (
-        &["--format", "csv"],
         "network,a\n1.0.0.0/8\n",
         "2: has not as many cells as the header",
     ),
@@ -187,7 +184,7 @@ const BAD: &[(&[&str], &str, &str)] = &[
     (
         &["--format", "csv", "--type", "a=uint32"],
         "network,a\n1.0.0.0/8,x\n",
-        "2: a: not of the type uint32",
+        "2: a: not of the type uint32: x",
     ),
     (
         &["--format", "csv", "--range-columns", "a,b"],
@@ -197,7 +194,7 @@ const BAD: &[(&[&str], &str, &str)] = &[
     (
         &["--format", "csv", "--range-columns", "a,b"],
         "a,b,c\n1.0.0.0,1.0.0.256,x\n",
-        "2: b: not an address",
+        "2: b: not an address: 1.0.0.256",
     ),
     (
         &["--range-columns", "a,b"],
@@ -227,6 +224,7 @@ fn run_with(alloc: Global, options: &[&str], rows: &[u8]) -> Run {
         return Run {
             status: Some(9),
             is_memory: false,
+            written: run.written,
             reported: run.reported,
         };
     }
@@ -283,6 +281,14 @@ const LONG: &[(&[&str], &str, &str, usize, &str, &str)] = &[
         "1: a record of more than 2097152 bytes of texts",
     ),
     (
+        &["--type", "a=bytes"],
+        "{\"network\":\"1.0.0.0/8\",\"a\":\"",
+        "?",
+        101,
+        "\"}\n",
+        "1: a: not of the type bytes: ????????????????????????????????????????????????????????????????????????????????????????????????????..",
+    ),
+    (
         &[],
         "{\"network\":\"1.0.0.0/8\",\"record\":[1",
         ",1",
@@ -300,18 +306,10 @@ const LONG: &[(&[&str], &str, &str, usize, &str, &str)] = &[
     ),
     (
         &["--format", "csv"],
-        "network,a\n1.0.0.0/8,\"",
-        "x\n",
-        2_500_000,
-        "",
-        "2: has a quote that nothing closes",
-    ),
-    (
-        &["--format", "csv"],
-        "network,a\n1.0.0.0/8,\"",
-        "x\n",
-        2_500_000,
-        "\"\n",
+        "network,a\n1.0.0.0/8,",
+        "x",
+        5_000_000,
+        "\n",
         "2: has more than 4194304 bytes",
     ),
 ];
@@ -329,13 +327,95 @@ fn long_rows_are_named(rt: HostRuntime) {
 #[test]
 fn lines_behind_a_long_row_are_counted(rt: HostRuntime) {
     let alloc = rt.alloc();
-    let before = "network,a\n1.0.0.0/8,\"";
-    let row = long_row(alloc, before, "x\n", 2_500_000, "\"\n1.0.0.0/33,x\n");
+    let before = "network,a\n1.0.0.0/8,";
+    let row = long_row(alloc, before, "x", 5_000_000, "\n1.0.0.0/33,x\n");
     let run = run_with(alloc, &["--format", "csv"], &row);
     let wanted = "mmdb: standard input:2: has more than 4194304 bytes
-mmdb: standard input:2500003: network: not a network
+mmdb: standard input:3: network: not a network: 1.0.0.0/33
 mmdb: standard input: 2 lines are wrong\n";
     assert!(rt; run.err() == wanted, "{}", run.err());
+}
+
+/// Rows of CSV whose quotes are wrong.
+struct QuoteCase {
+    rows: &'static str,
+    skip_bad: bool,
+    status: u8,
+    /// How what is said begins.
+    said: &'static str,
+}
+
+const QUOTES: &[QuoteCase] = &[
+    QuoteCase {
+        rows: "network,a\n1.0.0.0/8,\"x\r\n\"\"y\"\n2.0.0.0/8,\"x\n3.0.0.0/8,y\n",
+        skip_bad: false,
+        status: 1,
+        said: "mmdb: standard input:4: has a quote that nothing closes\nmmdb: standard input: 2 lines are wrong\n",
+    },
+    QuoteCase {
+        rows: "network,a\n1.0.0.0/8,\"x\r\n\"\"y\"\n2.0.0.0/8,\"x\n3.0.0.0/8,y\n",
+        skip_bad: true,
+        status: 1,
+        said: "mmdb: standard input:4: has a quote that nothing closes\nmmdb: standard input: 2 lines are wrong\n",
+    },
+    QuoteCase {
+        rows: "network,a\n1.0.0.0/8,x\n2.0.0.0/8,\"y\n\n3.0.0.0/8,z",
+        skip_bad: true,
+        status: 1,
+        said: "mmdb: standard input:3: has a quote that nothing closes\nmmdb: standard input: 3 lines are wrong\n",
+    },
+    QuoteCase {
+        rows: "network,a\n1.0.0.0/8,\"x\n2.0.0.0/8,\"y\"\n",
+        skip_bad: false,
+        status: 1,
+        said: "mmdb: standard input:2: has text behind a closing quote\nmmdb: standard input: 2 lines are wrong\n",
+    },
+    QuoteCase {
+        rows: "network,a\n1.0.0.0/8,\"x\n2.0.0.0/8,\"y\"\n3.0.0.0/8,z\n",
+        skip_bad: true,
+        status: 0,
+        said: "mmdb: standard input:2: has text behind a closing quote\nmmdb: 1 networks taken, 0 reserved among them, 2 lines left out\n",
+    },
+];
+
+// The options of rows of CSV.
+fn csv_options(skip_bad: bool) -> &'static [&'static str] {
+    if skip_bad {
+        &["--format", "csv", "--skip-bad"]
+    } else {
+        &["--format", "csv"]
+    }
+}
+
+#[test]
+fn a_quote_that_is_not_closed_ends_the_run(rt: HostRuntime) {
+    let alloc = rt.alloc();
+    for case in QUOTES {
+        let run = run_with(alloc, csv_options(case.skip_bad), case.rows.as_bytes());
+        assert!(rt;
+            run.status == Some(case.status) && run.err().starts_with(case.said),
+            "{}: {}",
+            case.said,
+            run.err()
+        );
+    }
+}
+
+#[test]
+fn a_quote_that_stays_open_ends_the_run(rt: HostRuntime) {
+    let alloc = rt.alloc();
+    for (skip_bad, behind) in [(false, ""), (false, "\"\n"), (true, "\"\n2.0.0.0/8,y\n")] {
+        // eleven bytes, 2,097,146 lines, and one byte of the line after them
+        let row = long_row(alloc, "network,a\n1.0.0.0/8,\"", "x\n", 2_500_000, behind);
+        let run = run_with(alloc, csv_options(skip_bad), &row);
+        let wanted = "mmdb: standard input:2: has a quote that is still open after 4194304 bytes
+mmdb: standard input: 2097147 lines are wrong\n";
+        assert!(rt;
+            run.status == Some(1) && run.err() == wanted,
+            "{}",
+            run.err()
+        );
+    }
 }
 
 /// Options that are wrong.
@@ -392,6 +472,15 @@ const NOTHING: &[(&[&str], &str)] = &[
     (&["--format", "csv"], "network,a\n"),
     (&["--format", "csv"], "network,a\n1.0.0.0/8,\n"),
     (&["--skip-bad"], "x\n"),
+    // values of which later or longer networks leave nothing
+    (
+        &[],
+        "{\"network\":\"1.0.0.0/8\",\"record\":1}\n{\"network\":\"1.0.0.0/8\",\"record\":null}\n",
+    ),
+    (
+        &[],
+        "{\"network\":\"1.0.0.0/9\",\"record\":null}\n{\"network\":\"1.128.0.0/9\",\"record\":null}\n{\"network\":\"1.0.0.0/8\",\"record\":1}\n",
+    ),
     (
         &["--reserved", "skip"],
         "{\"network\":\"10.0.0.0/8\",\"record\":1}\n",
@@ -405,6 +494,261 @@ fn no_file_is_made_of_nothing(rt: HostRuntime) {
         let said = "mmdb: standard input: no network with a record; out.mmdb is not touched\n";
         assert!(rt;
             run.status == Some(1) && run.err().ends_with(said),
+            "{rows}: {}",
+            run.err()
+        );
+    }
+}
+
+#[test]
+fn a_file_stays_where_nothing_is_made(rt: HostRuntime) {
+    let alloc = rt.alloc();
+    for (options, rows) in NOTHING {
+        let disk = Disk::new(alloc, u32::MAX, None);
+        let _ = disk.put("out.mmdb", BASE_FILE);
+        let mut words = Vec::new(alloc);
+        let _ = words.extend_from_slice(&["mmdb", "build", "out.mmdb", "--from", "-"]);
+        let _ = words.extend_from_slice(options);
+        let run = run_on(alloc, &disk, &words, rows.as_bytes());
+        let stays = match disk.get("out.mmdb") {
+            Some(file) => file.as_slice() == BASE_FILE && disk.len() == 1,
+            None => false,
+        };
+        assert!(rt; run.status == Some(1) && stays, "{rows}: {}", run.err());
+    }
+}
+
+/// Types of paths, rows, the status, and how what is said ends.
+const UNMET: &[(&[&str], &str, u8, &str)] = &[
+    (
+        &["--type", "a.isocode=string"],
+        "{\"network\":\"1.0.0.0/8\",\"record\":{\"a\":{\"iso_code\":\"x\"}}}\n",
+        1,
+        "mmdb: --type a.isocode: no row has this path; did you mean a.iso_code?\n",
+    ),
+    (
+        &["--type", "zzz=uint32"],
+        "{\"network\":\"1.0.0.0/8\",\"a\":1}\n",
+        1,
+        "mmdb: --type zzz: no row has this path\n",
+    ),
+    // a value that is none has a path too
+    (
+        &["--type", "a=uint32"],
+        "{\"network\":\"1.0.0.0/8\",\"a\":null,\"b\":1}\n",
+        0,
+        " bytes\n",
+    ),
+    (
+        &["--format", "csv", "--type", "a=uint32"],
+        "network,a,b\n1.0.0.0/8,,1\n",
+        0,
+        " bytes\n",
+    ),
+];
+
+#[test]
+fn types_that_no_row_meets_are_errors(rt: HostRuntime) {
+    for (options, rows, status, said) in UNMET {
+        let run = run_with(rt.alloc(), options, rows.as_bytes());
+        assert!(rt;
+            run.status == Some(*status) && run.err().ends_with(said),
+            "{options:?}: {}",
+            run.err()
+        );
+    }
+}
+
+/// A file of types, options and rows for one that is made beside it, the status, and how what is said ends.
+struct LikeCase {
+    types: &'static str,
+    options: &'static [&'static str],
+    rows: &'static str,
+    status: u8,
+    said: &'static str,
+}
+
+/// Values at three paths.
+const TYPES: &str =
+    "{\"network\":\"1.0.0.0/8\",\"record\":{\"a\":{\"iso_code\":\"x\",\"b\":[1]},\"zzz\":1}}\n";
+
+const LIKE_CASES: &[LikeCase] = &[
+    // maps and arrays have no types of their own
+    LikeCase {
+        types: TYPES,
+        options: &[],
+        rows: "{\"network\":\"1.0.0.0/8\",\"a\":{\"isocode\":\"x\"}}\n",
+        status: 1,
+        said: " lines left out
+mmdb: --types-like types.mmdb: a.iso_code: no row has this path; did you mean a.isocode?
+mmdb: --types-like types.mmdb: a.b.0: no row has this path
+mmdb: --types-like types.mmdb: zzz: no row has this path\n",
+    },
+    // a type that is named is not the file's
+    LikeCase {
+        types: TYPES,
+        options: &["--type", "zzz=uint16"],
+        rows: "{\"network\":\"1.0.0.0/8\",\"a.iso_code\":\"x\",\"a.b.0\":2}\n",
+        status: 1,
+        said: " lines left out\nmmdb: --type zzz: no row has this path\n",
+    },
+    // a value that is none has a path too, and so has a column without one
+    LikeCase {
+        types: TYPES,
+        options: &[],
+        rows: "{\"network\":\"1.0.0.0/8\",\"a.iso_code\":null,\"a.b.0\":2,\"zzz\":null}\n",
+        status: 0,
+        said: " bytes\n",
+    },
+    LikeCase {
+        types: TYPES,
+        options: &["--format", "csv"],
+        rows: "network,a.iso_code,a.b.0,zzz\n1.0.0.0/8,,2,\n",
+        status: 0,
+        said: " bytes\n",
+    },
+    // the path of whole records
+    LikeCase {
+        types: "{\"network\":\"1.0.0.0/8\",\"record\":1}\n",
+        options: &[],
+        rows: "{\"network\":\"1.0.0.0/8\",\"a\":1}\n",
+        status: 1,
+        said: " lines left out\nmmdb: --types-like types.mmdb: record: no row has this path\n",
+    },
+    // ten are named, and then all are counted
+    LikeCase {
+        types: "{\"network\":\"1.0.0.0/8\",\"record\":[{\"a\":1,\"b\":1,\"c\":1,\"d\":1,\"e\":1,\"f\":1,\"g\":1,\"h\":1,\"i\":1,\"j\":1,\"k\":1}]}\n",
+        options: &[],
+        rows: "{\"network\":\"1.0.0.0/8\",\"record\":[{\"k\":1}]}\n",
+        status: 1,
+        said: "mmdb: --types-like types.mmdb: 0.j: no row has this path; did you mean 0.k?\n",
+    },
+    LikeCase {
+        types: "{\"network\":\"1.0.0.0/8\",\"record\":[{\"a\":1,\"b\":1,\"c\":1,\"d\":1,\"e\":1,\"f\":1,\"g\":1,\"h\":1,\"i\":1,\"j\":1,\"k\":1}]}\n",
+        options: &[],
+        rows: "{\"network\":\"1.0.0.0/8\",\"record\":[{}]}\n",
+        status: 1,
+        said: "mmdb: --types-like types.mmdb: 0.j: no row has this path
+mmdb: --types-like types.mmdb: no row has 11 of its paths\n",
+    },
+];
+
+// A run over rows on standard input, beside a file of types.
+fn run_like(rt: &impl Abort, alloc: Global, disk: &Disk, case: &LikeCase) -> Run {
+    let made = &["mmdb", "build", "types.mmdb", "--from", "-"];
+    let run = run_on(alloc, disk, made, case.types.as_bytes());
+    assert!(rt; run.status == Some(0), "{}", run.err());
+    let mut words = Vec::new(alloc);
+    let _ = words.extend_from_slice(&["mmdb", "build", "out.mmdb", "--from", "-"]);
+    let _ = words.extend_from_slice(&["--types-like", "types.mmdb"]);
+    let _ = words.extend_from_slice(case.options);
+    run_on(alloc, disk, &words, case.rows.as_bytes())
+}
+
+#[test]
+fn paths_of_a_file_of_types_that_no_row_meets_are_errors(rt: HostRuntime) {
+    let alloc = rt.alloc();
+    for case in LIKE_CASES {
+        let disk = Disk::new(alloc, u32::MAX, None);
+        let run = run_like(&rt, alloc, &disk, case);
+        let is_made = disk.get("out.mmdb").is_some();
+        assert!(rt;
+            run.status == Some(case.status)
+                && is_made == (case.status == 0)
+                && run.err().ends_with(case.said),
+            "{}: {}",
+            case.rows,
+            run.err()
+        );
+    }
+}
+
+/// Seven nodes, each of which leads to the next one twice: 128 networks.
+const DOUBLED: &[(u32, u32)] = &[(1, 1), (2, 2), (3, 3), (4, 4), (5, 5), (6, 6), (23, 23)];
+
+#[test]
+fn a_tree_of_too_many_networks_gives_no_types(rt: HostRuntime) {
+    let alloc = rt.alloc();
+    let nodes = nodes_24(alloc, DOUBLED).expect(&rt, "nodes");
+    let changes: &[(Field, &[u8])] = &[(Field::NodeCount, b"\xC1\x07")];
+    let types = changed_file(alloc, nodes.as_slice(), b"\x41x", changes).expect(&rt, "a file");
+    let disk = Disk::new(alloc, u32::MAX, None);
+    let _ = disk.put("types.mmdb", &types);
+    let words = &[
+        "mmdb",
+        "build",
+        "out.mmdb",
+        "--from",
+        "-",
+        "--types-like",
+        "types.mmdb",
+    ];
+    let run = run_on(alloc, &disk, words, ROW);
+    let said =
+        "mmdb: types.mmdb: its search tree leads to more networks than its nodes can have; see mmdb verify\n";
+    assert!(rt;
+        run.status == Some(1) && run.err() == said && disk.len() == 1,
+        "{}",
+        run.err()
+    );
+}
+
+/// Options, rows, and what is said of the paths whose values have several types, between two other lines.
+const SEVERAL: &[(&[&str], &str, &str)] = &[
+    (
+        &[],
+        "{\"network\":\"1.0.0.0/8\",\"record\":{\"a\":\"x\",\"b\":{\"c\":5000000000}}}\n{\"network\":\"2.0.0.0/8\",\"b.c\":1,\"a\":1}\n",
+        "mmdb: a got several types: string, uint32\nmmdb: b.c got several types: uint64, uint32\n",
+    ),
+    // all items of an array have one path
+    (
+        &[],
+        "{\"network\":\"1.0.0.0/8\",\"record\":[1,\"x\",{\"a\":1},1,-1]}\n",
+        "mmdb: 0 got several types: uint32, string, map, int32\n",
+    ),
+    (
+        &[],
+        "{\"network\":\"1.0.0.0/8\",\"record\":1.5}\n{\"network\":\"2.0.0.0/8\",\"record\":1}\n",
+        "mmdb: record got several types: double, uint32\n",
+    ),
+    (
+        &["--type", "a=uint64", "--skip-bad"],
+        "{\"network\":\"1.0.0.0/8\",\"a\":5000000000}\n{\"network\":\"2.0.0.0/8\",\"a\":1}\n{\"network\":\"3.0.0.0/8\",\"a\":\"x\"}\n",
+        "",
+    ),
+    (
+        &["--format", "csv"],
+        "network,a\n1.0.0.0/8,1\n2.0.0.0/8,x\n",
+        "",
+    ),
+    // ten are named, and then all are counted
+    (
+        &[],
+        "{\"network\":\"1.0.0.0/8\",\"record\":[[\"x\",1],{\"a\":1,\"b\":1,\"c\":1,\"d\":1,\"e\":1,\"f\":1,\"g\":1,\"h\":1,\"i\":1}]}\n{\"network\":\"2.0.0.0/8\",\"record\":[{\"a\":-1,\"b\":-1,\"c\":-1,\"d\":-1,\"e\":-1,\"f\":-1,\"g\":-1,\"h\":-1,\"i\":-1}]}\n",
+        "mmdb: 0 got several types: array, map
+mmdb: 0.0 got several types: string, uint32
+mmdb: 0.a got several types: uint32, int32
+mmdb: 0.b got several types: uint32, int32
+mmdb: 0.c got several types: uint32, int32
+mmdb: 0.d got several types: uint32, int32
+mmdb: 0.e got several types: uint32, int32
+mmdb: 0.f got several types: uint32, int32
+mmdb: 0.g got several types: uint32, int32
+mmdb: 0.h got several types: uint32, int32
+mmdb: 11 paths got several types\n",
+    ),
+];
+
+#[test]
+fn paths_of_several_types_are_said(rt: HostRuntime) {
+    let alloc = rt.alloc();
+    for (options, rows, said) in SEVERAL {
+        let run = run_with(alloc, options, rows.as_bytes());
+        let wanted: String = format!(in alloc; " lines left out\n{said}mmdb: out.mmdb: ").expect(
+            &rt, "a text",
+        );
+        assert!(rt;
+            run.status == Some(0) && run.err().contains(wanted.as_str()),
             "{rows}: {}",
             run.err()
         );

@@ -1,20 +1,59 @@
 //! A disk in memory, of which one call fails.
+use mmdb_files::{Owner, SharedFiles};
 use std::alloc::{AllocError, Allocator, Global};
 use std::cell::{Cell, RefCell};
 use std::env::{Env, FillError};
-use std::fs::{Metadata, OpenFile, OpenOptions, Permissions};
+use std::fs::{Metadata, OpenFile, OpenOptions, Permissions, TryLockError};
 use std::io::{self, ErrorKind, Read, Seek, SeekFrom, Write};
 use std::os::unix::fs::PermissionsExt;
 use std::path::PathBuf;
 use std::rt::Files;
 use std::time::{Clock, Duration};
 
-/// A file by its name, and what it has.
+/// A file by its name, what it has, and a number that no other one has.
 #[derive(Drop)]
 struct Named {
     name: String,
     bytes: Vec<u8>,
+    number: u32,
+    owner: Owner,
 }
+
+/// Whose files are that the process makes which runs.
+const MINE: Owner = Owner { user: 1, group: 1 };
+
+/// Whose `out.mmdb` is, where it is another one's.
+pub(crate) const OTHER_OWNER: Owner = Owner { user: 7, group: 8 };
+
+/// The name of a file that is left beside `out.mmdb`.
+pub(crate) const LEFT: &str = ".out.mmdb.tmp";
+
+/// How a system treats files that several processes replace.
+#[derive(Clone, Copy)]
+pub(crate) struct Sharing {
+    /// How many tries find a file locked.
+    pub(crate) held: u32,
+    pub(crate) has_locks: bool,
+    /// Which question whether a path is a file's name is answered with no.
+    pub(crate) lost_at: u32,
+    pub(crate) is_root: bool,
+    /// Whether a file may be given to another user, and to another group.
+    pub(crate) gives_user: bool,
+    pub(crate) gives_group: bool,
+    /// Whether a pipe has the name of the file beside.
+    pub(crate) left_is_pipe: bool,
+}
+
+/// A system with locks, of which this process alone replaces files.
+pub(crate) const ALONE: Sharing = Sharing {
+    held: 0,
+    has_locks: true,
+    lost_at: u32::MAX,
+    is_root: false,
+    gives_user: true,
+    gives_group: true,
+    left_is_pipe: false,
+};
 
 /// The name of a link to `out.mmdb`.
 pub(crate) const LINK: &str = "link.mmdb";
@@ -31,11 +70,6 @@ const TARGET: &str = "out.mmdb";
 /// The folders in which databases are looked for: the disk has files whose names have them.
 const FOLDERS: &str = ":first:own/";
 
-/// The number of the process that runs, and that of another one.
-const THIS_PROCESS: &str = "42";
-
-const OTHER_PROCESS: &str = "/proc/7";
-
 /// Files in one folder, the current one. The call number `fails_at` of all that may fail does.
 #[derive(Drop)]
 pub(crate) struct Disk {
@@ -47,6 +81,9 @@ pub(crate) struct Disk {
     epoch: Option<&'static str>,
     /// Who may read, write and run the file for which that was set last.
     mode: Cell<u32>,
+    /// The number of the file that comes next.
+    next: Cell<u32>,
+    pub(crate) sharing: Cell<Sharing>,
 }
 
 // The name of a path in the current folder.
@@ -80,6 +117,8 @@ impl Disk {
             fails_at,
             epoch,
             mode: Cell::new(0),
+            next: Cell::new(0),
+            sharing: Cell::new(ALONE),
         }
     }
 
@@ -113,18 +152,53 @@ impl Disk {
         }
     }
 
-    /// Puts a file on the disk, in the place of one of its name.
-    pub(crate) fn put(&self, name: &str, bytes: &[u8]) -> io::Result<()> {
-        let named = Named {
-            name: String::from_str(self.alloc, name)?,
-            bytes: copy_of(self.alloc, bytes)?,
-        };
+    // Puts a file on the disk, in the place of one of its name.
+    fn put_named(&self, named: Named) -> io::Result<()> {
         let Ok(mut files) = self.files.try_borrow_mut() else {
             return Err(failed());
         };
+        let name = named.name.as_str();
         files.retain(|file| file.name.as_str() != name);
         files.push(named)?;
         Ok(())
+    }
+
+    /// Puts a new file of an owner on the disk, in the place of one of its name.
+    pub(crate) fn put_of(&self, name: &str, bytes: &[u8], owner: Owner) -> io::Result<()> {
+        let number = self.next.get();
+        self.next.set(number.saturating_add(1));
+        self.put_named(Named {
+            name: String::from_str(self.alloc, name)?,
+            bytes: copy_of(self.alloc, bytes)?,
+            number,
+            owner,
+        })
+    }
+
+    /// Puts a new file on the disk, in the place of one of its name.
+    pub(crate) fn put(&self, name: &str, bytes: &[u8]) -> io::Result<()> {
+        self.put_of(name, bytes, MINE)
+    }
+
+    // The number of a file, if it is there.
+    fn number_of(&self, name: &str) -> Option<u32> {
+        let files = self.files.try_borrow().ok()?;
+        let place = place_of(&files, name)?;
+        Some(files.get(place)?.number)
+    }
+
+    /// Whose a file is, if it is there.
+    pub(crate) fn owner(&self, name: &str) -> Option<Owner> {
+        let files = self.files.try_borrow().ok()?;
+        let place = place_of(&files, name)?;
+        Some(files.get(place)?.owner)
+    }
+
+    // The name of the file of a number, none where it is gone.
+    fn name_of_number(&self, number: u32) -> Option<String> {
+        let files = self.files.try_borrow().ok()?;
+        let place = files.iter().position(|file| file.number == number)?;
+        String::from_str(self.alloc, files.get(place)?.name.as_str()).ok()
     }
 
     /// What a file has, or none where there is no such file.
@@ -145,33 +219,41 @@ impl Disk {
         }
     }
 
-    // Puts bytes behind those of a file.
-    fn append(&self, name: &str, bytes: &[u8]) -> io::Result<()> {
-        let mut file = self.take(name)?;
-        file.bytes.extend_from_slice(bytes)?;
-        let Ok(mut files) = self.files.try_borrow_mut() else {
-            return Err(failed());
-        };
-        files.push(file)?;
-        Ok(())
+    // Takes the file of a number off the disk.
+    fn take_number(&self, number: u32) -> io::Result<Named> {
+        match self.name_of_number(number) {
+            Some(name) => self.take(name.as_str()),
+            None => Err(io::Error::from(ErrorKind::NotFound)),
+        }
     }
 
-    // The names of all files, each with a byte 0 behind it.
-    fn names(&self) -> io::Result<Vec<u8>> {
-        let Ok(files) = self.files.try_borrow() else {
-            return Err(failed());
+    // Puts bytes behind those of a file.
+    fn append(&self, number: u32, bytes: &[u8]) -> io::Result<()> {
+        let mut file = self.take_number(number)?;
+        file.bytes.extend_from_slice(bytes)?;
+        self.put_named(file)
+    }
+
+    // Cuts a file to nothing.
+    fn cut(&self, number: u32) -> io::Result<()> {
+        let mut file = self.take_number(number)?;
+        file.bytes.clear();
+        self.put_named(file)
+    }
+
+    // Gives a file to a user, a group, or both.
+    fn give(&self, number: u32, user: Option<u32>, group: Option<u32>) -> io::Result<()> {
+        let mut file = self.take_number(number)?;
+        file.owner = Owner {
+            user: user.unwrap_or(file.owner.user),
+            group: group.unwrap_or(file.owner.group),
         };
-        let mut names = Vec::new(self.alloc);
-        for file in files.iter() {
-            names.extend_from_slice(file.name.as_bytes())?;
-            names.push(0)?;
-        }
-        Ok(names)
+        self.put_named(file)
     }
 
     // What a name of a file has, of a link what it leads to.
     fn metadata(&self, name: &str) -> io::Result<Metadata> {
-        if name == PIPE || name == OTHER_PROCESS {
+        if name == PIPE || (name == LEFT && self.sharing.get().left_is_pipe) {
             return Ok(Metadata::of_dir());
         }
         let name = if name == LINK { TARGET } else { name };
@@ -196,11 +278,11 @@ pub(crate) struct DiskRuntime<'d> {
     pub(crate) disk: &'d Disk,
 }
 
-/// An open file: what is read of it, and the name under which is written.
+/// An open file: what is read of it, and the number of that which is written.
 #[derive(Drop)]
 pub(crate) struct DiskFile<'d> {
     disk: &'d Disk,
-    name: String,
+    number: u32,
     bytes: Vec<u8>,
     at: usize,
 }
@@ -220,7 +302,7 @@ impl Write for DiskFile<'_> {
     fn write(&mut self, bytes: &[u8]) -> io::Result<usize> {
         self.disk.count()?;
         let count = bytes.len().min(50_000);
-        self.disk.append(self.name.as_str(), &bytes[..count])?;
+        self.disk.append(self.number, &bytes[..count])?;
         Ok(count)
     }
 
@@ -253,8 +335,13 @@ impl OpenFile for DiskFile<'_> {
         Ok(())
     }
 
-    fn set_len(&self, _size: u64) -> io::Result<()> {
-        Err(failed())
+    fn set_len(&self, size: u64) -> io::Result<()> {
+        self.disk.count()?;
+        if size == 0 {
+            self.disk.cut(self.number)
+        } else {
+            Err(failed())
+        }
     }
 
     fn sync_all(&self) -> io::Result<()> {
@@ -268,22 +355,23 @@ impl OpenFile for DiskFile<'_> {
 
 impl<'d> DiskRuntime<'d> {
     // An open file of these bytes.
-    fn opened(&self, name: &str, bytes: Vec<u8>) -> io::Result<DiskFile<'d>> {
-        Ok(DiskFile {
+    fn opened(&self, name: &str, bytes: Vec<u8>) -> DiskFile<'d> {
+        DiskFile {
             disk: self.disk,
-            name: String::from_str(self.disk.alloc, name)?,
+            number: self.disk.number_of(name).unwrap_or(u32::MAX),
             bytes,
             at: 0,
-        })
+        }
     }
 
     // An open file that was not there before.
     fn made(&self, name: &str) -> io::Result<DiskFile<'d>> {
-        if self.disk.get(name).is_some() {
+        let is_pipe = name == LEFT && self.disk.sharing.get().left_is_pipe;
+        if is_pipe || self.disk.get(name).is_some() {
             return Err(io::Error::from(ErrorKind::AlreadyExists));
         }
         self.disk.put(name, b"")?;
-        self.opened(name, Vec::new(self.disk.alloc))
+        Ok(self.opened(name, Vec::new(self.disk.alloc)))
     }
 }
 
@@ -298,19 +386,17 @@ impl<'d> Files for DiskRuntime<'d> {
             return self.made(name_of(path));
         }
         if path == "./" {
-            return self.opened("", Vec::new(self.disk.alloc));
+            return Ok(self.opened("", Vec::new(self.disk.alloc)));
         }
         let name = if path == LINK { TARGET } else { name_of(path) };
         match self.disk.get(name) {
-            Some(bytes) => self.opened(name, bytes),
+            Some(bytes) => Ok(self.opened(name, bytes)),
             None => Err(io::Error::from(ErrorKind::NotFound)),
         }
     }
 
     fn open_dir(&self, _path: &str) -> io::Result<DiskFile<'d>> {
-        self.disk.count()?;
-        let names = self.disk.names()?;
-        self.opened("", names)
+        Err(failed())
     }
 
     fn metadata(&self, path: &str) -> io::Result<Metadata> {
@@ -335,23 +421,15 @@ impl<'d> Files for DiskRuntime<'d> {
         }
     }
 
-    fn read_link<B: Allocator>(&self, alloc: B, path: &str) -> io::Result<PathBuf<B>> {
-        self.disk.count()?;
-        if path == "/proc/self" {
-            Ok(PathBuf::from_str(alloc, THIS_PROCESS)?)
-        } else {
-            Err(io::Error::from(ErrorKind::NotFound))
-        }
-    }
-
     fn copy(&self, _from: &str, _to: &str) -> io::Result<u64> {
         Err(failed())
     }
 
     fn rename(&self, from: &str, to: &str) -> io::Result<()> {
         self.disk.count()?;
-        let file = self.disk.take(name_of(from))?;
-        self.disk.put(name_of(to), &file.bytes)
+        let mut file = self.disk.take(name_of(from))?;
+        file.name = String::from_str(self.disk.alloc, name_of(to))?;
+        self.disk.put_named(file)
     }
 
     fn remove_file(&self, path: &str) -> io::Result<()> {
@@ -371,6 +449,61 @@ impl<'d> Files for DiskRuntime<'d> {
 
     fn remove_dir_all<B: Allocator>(&self, _alloc: B, _path: &str) -> io::Result<()> {
         Err(failed())
+    }
+}
+
+impl SharedFiles for DiskRuntime<'_> {
+    fn try_lock(&self, _file: &Self::File) -> Result<(), TryLockError> {
+        if let Err(error) = self.disk.count() {
+            return Err(TryLockError::Error(error));
+        }
+        let sharing = self.disk.sharing.get();
+        if !sharing.has_locks {
+            return Err(TryLockError::Error(io::Error::from(ErrorKind::Unsupported)));
+        }
+        if sharing.held > 0 {
+            self.disk.sharing.set(Sharing {
+                held: sharing.held - 1,
+                ..sharing
+            });
+            return Err(TryLockError::WouldBlock);
+        }
+        Ok(())
+    }
+
+    fn is_name_of(&self, path: &str, file: &Self::File) -> io::Result<bool> {
+        self.disk.count()?;
+        let sharing = self.disk.sharing.get();
+        self.disk.sharing.set(Sharing {
+            lost_at: sharing.lost_at.wrapping_sub(1),
+            ..sharing
+        });
+        Ok(sharing.lost_at > 0 && self.disk.number_of(name_of(path)) == Some(file.number))
+    }
+
+    fn owner_of(&self, path: &str) -> io::Result<Owner> {
+        self.disk.count()?;
+        let name = if path == LINK { TARGET } else { name_of(path) };
+        match self.disk.owner(name) {
+            Some(owner) => Ok(owner),
+            None => Err(io::Error::from(ErrorKind::NotFound)),
+        }
+    }
+
+    fn give(&self, file: &Self::File, user: Option<u32>, group: Option<u32>) -> io::Result<()> {
+        self.disk.count()?;
+        let sharing = self.disk.sharing.get();
+        let may_user = user.is_none() || sharing.gives_user;
+        let may_group = group.is_none() || sharing.gives_group;
+        if may_user && may_group {
+            self.disk.give(file.number, user, group)
+        } else {
+            Err(io::Error::from(ErrorKind::PermissionDenied))
+        }
+    }
+
+    fn may_give(&self) -> bool {
+        self.disk.sharing.get().is_root
     }
 }
 

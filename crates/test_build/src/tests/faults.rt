@@ -7,7 +7,7 @@ use std::alloc::Global;
 use std::process::Abort;
 
 const ROWS: &[u8] =
-    b"{\"network\":\"1.0.0.0/8\",\"record\":\"a\"}\n{\"network\":\"2.0.0.0/8\",\"record\":\"b\"}\n";
+    b"{\"network\":\"1.0.0.0/8\",\"record\":\"a\"}\n{\"network\":\"2.0.0.0/8\",\"country.iso_code\":\"b\"}\n";
 
 const WORDS: &[&str] = &[
     "mmdb",
@@ -20,24 +20,11 @@ const WORDS: &[&str] = &[
     "--check",
 ];
 
-/// What runs left that have ended, one of them with the number of this one; what one has that is not at its end; and other
-/// files.
-const LEFT: &[&str] = &[
-    ".out.mmdb.tmp-5-1",
-    ".out.mmdb.tmp-42-2",
-    ".out.mmdb.tmp-7-3",
-    ".out.mmdb.tmp-5",
-    ".out.mmdb.tmp-5-x",
-    ".other.mmdb.tmp-5-1",
-];
+/// What a run left that was killed, which is taken, and other files.
+const LEFT: &[&str] = &[".out.mmdb.tmp", ".other.mmdb.tmp", ".out.mmdb.tmp-5-1"];
 
 /// Which of them stay.
-const STAYING: &[&str] = &[
-    ".out.mmdb.tmp-7-3",
-    ".out.mmdb.tmp-5",
-    ".out.mmdb.tmp-5-x",
-    ".other.mmdb.tmp-5-1",
-];
+const STAYING: &[&str] = &[".other.mmdb.tmp", ".out.mmdb.tmp-5-1"];
 
 // A disk with an old file, rows, and what other runs have or left.
 fn disk_with(alloc: Global, fails_at: u32) -> Disk {

@@ -1,5 +1,5 @@
 //! Files that take another one's place.
-use super::disk::{DEAD_LINK, Disk, LINK, PIPE};
+use super::disk::{ALONE, DEAD_LINK, Disk, LEFT, LINK, OTHER_OWNER, PIPE, Sharing};
 use super::run::{Run, install_on, run_on};
 use mmdb_arguments::InstallArguments;
 use std::alloc::Global;
@@ -29,7 +29,9 @@ const CASES: &[Case] = &[
         options: &["--build-epoch", "6"],
         rows: "{\"network\":\"3.0.0.0/8\",\"record\":{\"a\":1}}\n",
         max_change: None,
-        said: Some("it was built at 6, before 7"),
+        said: Some(
+            "it was built at 6 (1970-01-01T00:00:06Z), before 7 (1970-01-01T00:00:07Z); --allow-older takes it",
+        ),
     },
     Case {
         options: &["--database-type", "Other"],
@@ -43,11 +45,31 @@ const CASES: &[Case] = &[
         max_change: None,
         said: Some("its IP version is 4, not 6"),
     },
-    // equal records at other places of the files, and addresses of IPv6, which do not count
+    // equal records at other places of the files
     Case {
         options: &[],
-        rows: "{\"network\":\"2.0.0.0/8\",\"record\":{\"a\":2}}\n{\"network\":\"1.0.0.0/8\",\"record\":{\"a\":1}}\n{\"network\":\"abcd::/16\",\"record\":{\"a\":1}}\n",
+        rows: "{\"network\":\"2.0.0.0/8\",\"record\":{\"a\":2}}\n{\"network\":\"1.0.0.0/8\",\"record\":{\"a\":1}}\n",
         max_change: Some("0"),
+        said: None,
+    },
+    // all of IPv6 is new
+    Case {
+        options: &[],
+        rows: "{\"network\":\"1.0.0.0/8\",\"record\":{\"a\":1}}\n{\"network\":\"2.0.0.0/8\",\"record\":{\"a\":2}}\n{\"network\":\"abcd::/16\",\"record\":{\"a\":1}}\n",
+        max_change: Some("99.999"),
+        said: Some("100 % of the IPv6 /48 networks with a record changed, at most 99.999 % may"),
+    },
+    // more than a day after the second 1,000,000 that the clock has, and a day
+    Case {
+        options: &["--build-epoch", "1086401"],
+        rows: "{\"network\":\"3.0.0.0/8\",\"record\":{\"a\":1}}\n",
+        max_change: None,
+        said: Some("it was built at 1086401 (1970-01-13T13:46:41Z), more than a day ahead"),
+    },
+    Case {
+        options: &["--build-epoch", "1086400"],
+        rows: "{\"network\":\"3.0.0.0/8\",\"record\":{\"a\":1}}\n",
+        max_change: None,
         said: None,
     },
     // a quarter of 2.0.0.0/8 has another record, and 3.0.0.0/9 one at all: 12,582,912 of 41,943,040 addresses, 30 percent
@@ -55,7 +77,7 @@ const CASES: &[Case] = &[
         options: &[],
         rows: "{\"network\":\"1.0.0.0/8\",\"record\":{\"a\":1}}\n{\"network\":\"2.0.0.0/8\",\"record\":{\"a\":2}}\n{\"network\":\"2.0.0.0/10\",\"record\":{\"a\":3}}\n{\"network\":\"3.0.0.0/9\",\"record\":{\"a\":1}}\n",
         max_change: Some("29.999"),
-        said: Some("12582912 of 41943040 IPv4 addresses with a record changed, more than may"),
+        said: Some("30 % of the IPv4 addresses with a record changed, at most 29.999 % may"),
     },
     Case {
         options: &[],
@@ -68,7 +90,7 @@ const CASES: &[Case] = &[
         options: &[],
         rows: "{\"network\":\"2.0.0.0/8\",\"record\":{\"a\":2}}\n",
         max_change: Some("49"),
-        said: Some("16777216 of 33554432 IPv4 addresses with a record changed, more than may"),
+        said: Some("50 % of the IPv4 addresses with a record changed, at most 49 % may"),
     },
 ];
 
@@ -109,7 +131,11 @@ fn arguments<'a>(
         new: "new.mmdb",
         dest,
         max_change,
+        database_type: None,
+        allow_older: false,
+        allow_broken: false,
         dry_run,
+        quiet: false,
     }
 }
 
@@ -121,9 +147,9 @@ fn assert_done(rt: &impl Abort, alloc: Global, disk: &Disk, run: &Run, said: Opt
         None => String::from_str(alloc, "").expect(rt, "a text"),
     };
     let is_right = if said.is_some() {
-        run.status == Some(1) && !is_new && run.err() == wanted.as_str()
+        run.status == Some(1) && !is_new && run.err() == wanted.as_str() && run.out().is_empty()
     } else {
-        run.status == Some(0) && is_new
+        run.status == Some(0) && is_new && run.out() == "out.mmdb: replaced\n"
     };
     assert!(rt; is_right, "{wanted}{}", run.err());
 }
@@ -147,7 +173,9 @@ fn a_dry_run_changes_nothing(rt: HostRuntime) {
         let run = install_on(alloc, &disk, &arguments("out.mmdb", case.max_change, true));
         let status = if case.said.is_some() { 1 } else { 0 };
         assert!(rt;
-            run.status == Some(status) && are_same(&disk, "out.mmdb", "old.mmdb"),
+            run.status == Some(status)
+                && are_same(&disk, "out.mmdb", "old.mmdb")
+                && run.out().is_empty(),
             "{}",
             run.err()
         );
@@ -175,7 +203,12 @@ const OTHERS: &[(&[u8], &str, Option<u8>, &str)] = &[
         Some(1),
         "mmdb: dead.mmdb: a link that leads nowhere\n",
     ),
-    (b"", "rows", Some(1), "mmdb: rows: not a MaxMind DB file\n"),
+    (
+        b"",
+        "rows",
+        Some(1),
+        "mmdb: rows: not a MaxMind DB file; --allow-broken replaces it\n",
+    ),
 ];
 
 #[test]
@@ -276,6 +309,33 @@ fn a_record_that_cannot_be_read_is_a_reason(rt: HostRuntime) {
 }
 
 #[test]
+fn a_record_there_that_cannot_be_compared_is_a_reason(rt: HostRuntime) {
+    let alloc = rt.alloc();
+    let rows = b"{\"network\":\"1.0.0.0/8\",\"record\":{\"a\":7}}\n";
+    let disk = disk_with(&rt, alloc, &[], rows);
+    // a file in which the key stands in its map
+    let rows = b"{\"network\":\"1.0.0.0/8\",\"record\":{\"a\":1}}\n";
+    make(&rt, alloc, &disk, &[], rows, "out.mmdb");
+    let mut file = disk.get("out.mmdb").expect(&rt, "a file");
+    patch(&rt, &mut file, b"\xE1\x41a", b"\xE1\x81a");
+    let _ = disk.put("out.mmdb", &file);
+    let run = install_on(alloc, &disk, &arguments("out.mmdb", Some("100"), false));
+    assert!(rt;
+        run.status == Some(1)
+            && run
+                .err()
+                .starts_with("mmdb: out.mmdb: invalid database at offset ")
+            && run.err().lines().count() == 1
+            && !are_same(&disk, "out.mmdb", "new.mmdb"),
+        "{}",
+        run.err()
+    );
+    // without a share nothing of it is read
+    let run = install_on(alloc, &disk, &arguments("out.mmdb", None, false));
+    assert_done(&rt, alloc, &disk, &run, None);
+}
+
+#[test]
 fn a_missing_file_is_made_and_the_same_bytes_change_nothing(rt: HostRuntime) {
     let alloc = rt.alloc();
     let disk = disk_with(&rt, alloc, &[], OLD);
@@ -287,10 +347,342 @@ fn a_missing_file_is_made_and_the_same_bytes_change_nothing(rt: HostRuntime) {
     );
     let run = install_on(alloc, &disk, &arguments("there.mmdb", Some("0"), false));
     assert!(rt;
-        run.status == Some(0) && run.err() == "mmdb: there.mmdb has these bytes already\n",
+        run.status == Some(0)
+            && run.err() == "mmdb: there.mmdb has these bytes already\n"
+            && run.out() == "there.mmdb: unchanged\n",
         "{}",
         run.err()
     );
+}
+
+/// A run of `install` whose options let something by, or ask for more.
+struct OptionCase {
+    /// What is there, none for the old file.
+    dest: Option<&'static [u8]>,
+    /// Options of `build` for the new file.
+    options: &'static [&'static str],
+    database_type: Option<&'static str>,
+    allow_older: bool,
+    allow_broken: bool,
+    quiet: bool,
+    status: Option<u8>,
+    out: &'static str,
+    /// How what is said begins.
+    said: &'static str,
+}
+
+const PLAIN: OptionCase = OptionCase {
+    dest: None,
+    options: &[],
+    database_type: None,
+    allow_older: false,
+    allow_broken: false,
+    quiet: false,
+    status: Some(0),
+    out: "out.mmdb: replaced\n",
+    said: "mmdb: out.mmdb: new.mmdb is installed, ",
+};
+
+/// A marker with nothing behind it.
+const BROKEN: &[u8] = b"\xAB\xCD\xEFMaxMind.com";
+
+const OPTION_CASES: &[OptionCase] = &[
+    OptionCase {
+        options: &["--build-epoch", "6"],
+        allow_older: true,
+        ..PLAIN
+    },
+    OptionCase {
+        quiet: true,
+        out: "",
+        said: "",
+        ..PLAIN
+    },
+    OptionCase {
+        dest: Some(b""),
+        allow_broken: true,
+        ..PLAIN
+    },
+    OptionCase {
+        dest: Some(b""),
+        status: Some(1),
+        out: "",
+        said: "mmdb: out.mmdb: not a MaxMind DB file; --allow-broken replaces it\n",
+        ..PLAIN
+    },
+    OptionCase {
+        dest: Some(BROKEN),
+        allow_broken: true,
+        ..PLAIN
+    },
+    OptionCase {
+        dest: Some(BROKEN),
+        status: Some(1),
+        out: "",
+        said: "mmdb: out.mmdb: ",
+        ..PLAIN
+    },
+    OptionCase {
+        database_type: Some("Cust*"),
+        ..PLAIN
+    },
+    OptionCase {
+        database_type: Some("*City"),
+        status: Some(1),
+        out: "",
+        said: "mmdb: new.mmdb: its type is Custom, not *City\n",
+        ..PLAIN
+    },
+    OptionCase {
+        database_type: Some("C*m"),
+        status: None,
+        out: "",
+        said: "",
+        ..PLAIN
+    },
+];
+
+// A run of a case.
+fn run_of_case(rt: &impl Abort, alloc: Global, case: &OptionCase) -> (Disk, Run) {
+    let rows = b"{\"network\":\"3.0.0.0/8\",\"record\":1}\n";
+    let disk = disk_with(rt, alloc, case.options, rows);
+    if let Some(bytes) = case.dest {
+        let _ = disk.put("out.mmdb", bytes);
+    }
+    let asked = InstallArguments {
+        database_type: case.database_type,
+        allow_older: case.allow_older,
+        allow_broken: case.allow_broken,
+        quiet: case.quiet,
+        ..arguments("out.mmdb", None, false)
+    };
+    let run = install_on(alloc, &disk, &asked);
+    (disk, run)
+}
+
+#[test]
+fn options_let_something_by(rt: HostRuntime) {
+    let alloc = rt.alloc();
+    for case in OPTION_CASES {
+        let (disk, run) = run_of_case(&rt, alloc, case);
+        let is_new = are_same(&disk, "out.mmdb", "new.mmdb");
+        assert!(rt;
+            run.status == case.status
+                && is_new == (case.status == Some(0))
+                && run.out() == case.out
+                && run.err().starts_with(case.said)
+                && run.err().is_empty() == case.said.is_empty(),
+            "{}: {}",
+            case.said,
+            run.err()
+        );
+    }
+}
+
+#[test]
+fn a_type_is_wanted_where_nothing_is(rt: HostRuntime) {
+    let alloc = rt.alloc();
+    let disk = disk_with(&rt, alloc, &[], OLD);
+    let asked = InstallArguments {
+        database_type: Some("City"),
+        ..arguments("there.mmdb", None, false)
+    };
+    let run = install_on(alloc, &disk, &asked);
+    assert!(rt;
+        run.status == Some(1) && disk.get("there.mmdb").is_none(),
+        "{}",
+        run.err()
+    );
+}
+
+/// How files are shared, whether a file is left beside, the status, and what is said before the end.
+struct SharingCase {
+    sharing: Sharing,
+    is_left: bool,
+    status: u8,
+    said: &'static str,
+    /// Whether the new file is the old one's owner's: the user, and the group.
+    keeps: (bool, bool),
+}
+
+const KEPT: SharingCase = SharingCase {
+    sharing: ALONE,
+    is_left: true,
+    status: 0,
+    said: "",
+    keeps: (true, true),
+};
+
+const SHARING_CASES: &[SharingCase] = &[
+    SharingCase {
+        is_left: false,
+        ..KEPT
+    },
+    KEPT,
+    // another process has it for a while
+    SharingCase {
+        sharing: Sharing { held: 3, ..ALONE },
+        ..KEPT
+    },
+    SharingCase {
+        sharing: Sharing {
+            held: u32::MAX,
+            ..ALONE
+        },
+        status: 1,
+        said: "mmdb: out.mmdb: waited ten seconds for ./.out.mmdb.tmp, which another run has locked\n",
+        ..KEPT
+    },
+    // the name is another file's when it is locked, and when it is written
+    SharingCase {
+        sharing: Sharing {
+            lost_at: 0,
+            ..ALONE
+        },
+        ..KEPT
+    },
+    SharingCase {
+        sharing: Sharing {
+            lost_at: 1,
+            ..ALONE
+        },
+        status: 1,
+        said: "mmdb: out.mmdb: ./.out.mmdb.tmp was taken away meanwhile\n",
+        ..KEPT
+    },
+    SharingCase {
+        sharing: Sharing {
+            left_is_pipe: true,
+            ..ALONE
+        },
+        is_left: false,
+        status: 1,
+        said: "mmdb: out.mmdb: ./.out.mmdb.tmp is no file\n",
+        ..KEPT
+    },
+    SharingCase {
+        sharing: Sharing {
+            has_locks: false,
+            ..ALONE
+        },
+        is_left: false,
+        said: "mmdb: out.mmdb: ./.out.mmdb.tmp can't be locked, so no other run may replace it: unsupported\n",
+        ..KEPT
+    },
+    SharingCase {
+        sharing: Sharing {
+            has_locks: false,
+            ..ALONE
+        },
+        said: "mmdb: out.mmdb: ./.out.mmdb.tmp can't be locked, so no other run may replace it: unsupported\n",
+        ..KEPT
+    },
+    SharingCase {
+        sharing: Sharing {
+            gives_user: false,
+            ..ALONE
+        },
+        said: "mmdb: out.mmdb: its owner 7 could not be kept\n",
+        keeps: (false, true),
+        ..KEPT
+    },
+    SharingCase {
+        sharing: Sharing {
+            gives_group: false,
+            ..ALONE
+        },
+        said: "mmdb: out.mmdb: its group 8 could not be kept\n",
+        keeps: (true, false),
+        ..KEPT
+    },
+    SharingCase {
+        sharing: Sharing {
+            gives_user: false,
+            gives_group: false,
+            ..ALONE
+        },
+        said: "mmdb: out.mmdb: its owner 7 and its group 8 could not be kept\n",
+        keeps: (false, false),
+        ..KEPT
+    },
+    SharingCase {
+        sharing: Sharing {
+            is_root: true,
+            ..ALONE
+        },
+        ..KEPT
+    },
+    // what root may not give away is not put there
+    SharingCase {
+        sharing: Sharing {
+            is_root: true,
+            gives_group: false,
+            ..ALONE
+        },
+        status: 1,
+        said: "mmdb: out.mmdb: the new file can't be given to 7:8: permission denied\n",
+        ..KEPT
+    },
+];
+
+// Whether a file took the other one's place, by a case.
+fn is_as_shared(disk: &Disk, run: &Run, case: &SharingCase) -> bool {
+    let is_new = are_same(disk, "out.mmdb", "new.mmdb");
+    if case.status != 0 {
+        return run.status == Some(1) && !is_new && run.err() == case.said;
+    }
+    let Some(owner) = disk.owner("out.mmdb") else {
+        return false;
+    };
+    run.status == Some(0)
+        && is_new
+        && run.err().starts_with(case.said)
+        && run.err().split('\n').count() == case.said.split('\n').count() + 1
+        && (
+            owner.user == OTHER_OWNER.user,
+            owner.group == OTHER_OWNER.group,
+        ) == case.keeps
+        && disk.get(LEFT).is_none()
+}
+
+#[test]
+fn files_are_replaced_by_one_process_at_a_time(rt: HostRuntime) {
+    let alloc = rt.alloc();
+    let rows = b"{\"network\":\"3.0.0.0/8\",\"record\":1}\n";
+    for case in SHARING_CASES {
+        let disk = disk_with(&rt, alloc, &[], rows);
+        let old = disk.get("out.mmdb").expect(&rt, "a file");
+        let _ = disk.put_of("out.mmdb", &old, OTHER_OWNER);
+        if case.is_left {
+            let _ = disk.put(LEFT, b"left of a run that was killed");
+        }
+        disk.sharing.set(case.sharing);
+        let run = install_on(alloc, &disk, &arguments("out.mmdb", None, false));
+        assert!(rt;
+            is_as_shared(&disk, &run, case),
+            "{}: {}",
+            case.said,
+            run.err()
+        );
+    }
+}
+
+#[test]
+fn a_long_name_is_put_by_its_hash(rt: HostRuntime) {
+    let alloc = rt.alloc();
+    let disk = disk_with(&rt, alloc, &[], OLD);
+    let mut name = String::new(alloc);
+    for _ in 0..251 {
+        let _ = name.push('a');
+    }
+    disk.sharing.set(Sharing {
+        held: u32::MAX,
+        ..ALONE
+    });
+    let run = install_on(alloc, &disk, &arguments(name.as_str(), None, false));
+    // the SHA-256 of the name
+    let beside = "./.772f911dd9d6692897188d0b03f718fb5fbd02020d0fce1374f1354a31205024.tmp,";
+    assert!(rt; run.err().contains(beside), "{}", run.err());
 }
 
 #[test]
@@ -457,7 +849,7 @@ fn faulty(alloc: Global, files: &Disk, fails_at: u32) -> Disk {
             let _ = disk.put(name, &bytes);
         }
     }
-    let _ = disk.put(".out.mmdb.tmp-5-1", b"left");
+    let _ = disk.put(LEFT, b"left");
     disk
 }
 

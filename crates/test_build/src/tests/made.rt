@@ -111,6 +111,64 @@ const CASES: &[Case] = &[
             ),
         ],
     },
+    // addresses of IPv4 that are written as ones of IPv6
+    Case {
+        options: &["--ip-version", "4"],
+        rows: "{\"network\":\"::ffff:1.2.3.0/120\",\"record\":\"a\"}\n{\"range\":[\"::ffff:2.0.0.0\",\"::ffff:2.0.0.1\"],\"record\":\"b\"}\n{\"network\":\"::ffff:3.0.0.1\",\"record\":\"c\"}\n",
+        answers: &[
+            ("1.2.3.4", "1.2.3.0/24 String(\"a\")"),
+            ("1.2.4.0", NONE),
+            ("2.0.0.1", "2.0.0.0/31 String(\"b\")"),
+            ("3.0.0.1", "3.0.0.1/32 String(\"c\")"),
+        ],
+    },
+    // values that come again: where the network is not the first cell, beside cells in quotes, of ranges, and behind blanks
+    Case {
+        options: &["--format", "csv"],
+        rows: "a,network,b\nx,1.0.0.0/8,y\nx,2.0.0.0/8,y\n\"x,\"\"\",3.0.0.0/8,\"y\"\n\"x,\"\"\",4.0.0.0/8,\"y\"\nx,\"5.0.0.0/8\",y\nxy,6.0.0.0/8,\n",
+        answers: &[
+            (
+                "1.1.1.1",
+                "1.0.0.0/8 Map([(\"a\", String(\"x\")), (\"b\", String(\"y\"))])",
+            ),
+            (
+                "2.1.1.1",
+                "2.0.0.0/8 Map([(\"a\", String(\"x\")), (\"b\", String(\"y\"))])",
+            ),
+            (
+                "3.1.1.1",
+                "3.0.0.0/8 Map([(\"a\", String(\"x,\\\"\")), (\"b\", String(\"y\"))])",
+            ),
+            (
+                "4.1.1.1",
+                "4.0.0.0/8 Map([(\"a\", String(\"x,\\\"\")), (\"b\", String(\"y\"))])",
+            ),
+            (
+                "5.1.1.1",
+                "5.0.0.0/8 Map([(\"a\", String(\"x\")), (\"b\", String(\"y\"))])",
+            ),
+            ("6.1.1.1", "6.0.0.0/8 Map([(\"a\", String(\"xy\"))])"),
+        ],
+    },
+    Case {
+        options: &["--format", "csv", "--range-columns", "first,last"],
+        rows: "last,a,first\n1.0.0.1,x,1.0.0.0\n2.0.0.1,x,2.0.0.0\n3.0.0.1,xy,3.0.0.0\n",
+        answers: &[
+            ("1.0.0.1", "1.0.0.0/31 Map([(\"a\", String(\"x\"))])"),
+            ("2.0.0.1", "2.0.0.0/31 Map([(\"a\", String(\"x\"))])"),
+            ("3.0.0.1", "3.0.0.0/31 Map([(\"a\", String(\"xy\"))])"),
+        ],
+    },
+    Case {
+        options: &[],
+        rows: "{\"network\": \"1.0.0.0/8\", \"record\": \"a\"}\n { \"network\"\t: \"2.0.0.0/8\", \"record\": \"a\"}\n{\"network\":\"3.0.0.0/8\",\"record\":\"a\"}\n{\"network\":\"4.0.0.0/8\", \"record\": \"a\"}\n",
+        answers: &[
+            ("1.1.1.1", "1.0.0.0/8 String(\"a\")"),
+            ("2.1.1.1", "2.0.0.0/7 String(\"a\")"),
+            ("3.1.1.1", "2.0.0.0/7 String(\"a\")"),
+            ("4.1.1.1", "4.0.0.0/8 String(\"a\")"),
+        ],
+    },
     Case {
         options: &[
             "--format",
@@ -323,6 +381,33 @@ mmdb: standard input:5: a network that another line has too
 mmdb: standard input:6: not JSON, or nested more than 128 deep
 mmdb: standard input: 4 lines are wrong\n",
 )];
+
+/// Rows, and what is said of them in a line.
+const COUNTED: &[(&str, &str)] = &[
+    (
+        "{\"network\":\"::ffff:1.2.3.0/120\",\"record\":1}\n{\"network\":\"::ffff:0:0/96\",\"record\":1}\n{\"network\":\"::fffe:0:0/95\",\"record\":2}\n",
+        "\nmmdb: 2 lines within ::ffff:0:0/96 are of IPv4\n",
+    ),
+    (
+        "{\"range\":[\"::ffff:1.2.3.0\",\"::ffff:1.2.3.5\"],\"record\":1}\n{\"range\":[\"::ffff:1.2.3.0\",\"::1:0:0:0\"],\"record\":1}\n",
+        "\nmmdb: 1 lines within ::ffff:0:0/96 are of IPv4\n",
+    ),
+];
+
+#[test]
+fn what_is_taken_otherwise_is_counted(rt: HostRuntime) {
+    let alloc = rt.alloc();
+    for (rows, said) in COUNTED {
+        let disk = Disk::new(alloc, u32::MAX, None);
+        let words = words_with(alloc, &[]);
+        let run = run_on(alloc, &disk, &words, rows.as_bytes());
+        assert!(rt;
+            run.status == Some(0) && run.err().contains(said),
+            "{said}: {}",
+            run.err()
+        );
+    }
+}
 
 #[test]
 fn all_is_said_in_the_order_of_the_lines(rt: HostRuntime) {

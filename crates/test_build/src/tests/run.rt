@@ -4,10 +4,10 @@ use mmdb_arguments::{BuildArguments, InstallArguments, NoRequest, Request, reque
 use mmdb_cmd_build::build;
 use mmdb_cmd_install::install;
 use mmdb_console::{Console, Paced, ProgramError, Terminals};
+use mmdb_files::SharedFiles;
 use mmdb_vectors::words::words_of;
 use std::alloc::Global;
 use std::env::Env;
-use std::rt::Files;
 use std::time::Clock;
 
 /// What a run left.
@@ -17,6 +17,8 @@ pub(crate) struct Run {
     pub(crate) status: Option<u8>,
     /// Whether that is out of memory.
     pub(crate) is_memory: bool,
+    /// What standard output got; of `build`, which writes none, nothing.
+    pub(crate) written: Vec<u8>,
     pub(crate) reported: Vec<u8>,
 }
 
@@ -25,14 +27,20 @@ impl Run {
     pub(crate) fn err(&self) -> &str {
         str::from_utf8(&self.reported).unwrap_or("not UTF-8")
     }
+
+    /// What standard output got.
+    pub(crate) fn out(&self) -> &str {
+        str::from_utf8(&self.written).unwrap_or("not UTF-8")
+    }
 }
 
 // What a command answered.
-fn run_of(done: Result<u8, ProgramError>, reported: Vec<u8>) -> Run {
+fn run_of(done: Result<u8, ProgramError>, written: Vec<u8>, reported: Vec<u8>) -> Run {
     match done {
         Ok(status) => Run {
             status: Some(status),
             is_memory: false,
+            written,
             reported,
         },
         Err(error) => {
@@ -41,6 +49,7 @@ fn run_of(done: Result<u8, ProgramError>, reported: Vec<u8>) -> Run {
             Run {
                 status: None,
                 is_memory,
+                written,
                 reported,
             }
         }
@@ -48,13 +57,13 @@ fn run_of(done: Result<u8, ProgramError>, reported: Vec<u8>) -> Run {
 }
 
 /// No stream is a terminal.
-const NO_TERMINALS: Terminals = Terminals {
+pub(crate) const NO_TERMINALS: Terminals = Terminals {
     output: false,
     errors: false,
 };
 
 // The command `build` over a runtime.
-fn build_over<R: Files + Env + Clock>(
+fn build_over<R: SharedFiles + Env + Clock>(
     alloc: Global,
     rt: &R,
     arguments: &BuildArguments<'_>,
@@ -83,7 +92,7 @@ fn run_request(alloc: Global, disk: &Disk, request: &Request<'_>, input: &[u8]) 
         }
         _ => Ok(3),
     };
-    run_of(done, reported)
+    run_of(done, Vec::new(alloc), reported)
 }
 
 /// The command on arguments, behind the program's name, over a disk and standard input.
@@ -101,6 +110,7 @@ pub(crate) fn run_on(alloc: Global, disk: &Disk, texts: &[&str], input: &[u8]) -
             Run {
                 status: Some(2),
                 is_memory,
+                written: Vec::new(alloc),
                 reported: Vec::new(alloc),
             }
         }
@@ -108,21 +118,23 @@ pub(crate) fn run_on(alloc: Global, disk: &Disk, texts: &[&str], input: &[u8]) -
 }
 
 // The command `install` over a runtime.
-fn install_over<R: Files + Env + Clock>(
+fn install_over<R: SharedFiles + Env + Clock>(
     alloc: Global,
     rt: &R,
     arguments: &InstallArguments<'_>,
+    written: &mut Vec<u8>,
     reported: &mut Vec<u8>,
 ) -> Result<u8, ProgramError> {
-    let mut out: Vec<u8> = Vec::new(alloc);
     let mut errors = Paced::new(rt, NO_TERMINALS, reported);
-    let mut console = Console::new(alloc, NO_TERMINALS, &mut out, &mut errors);
+    let mut console = Console::new(alloc, NO_TERMINALS, written, &mut errors);
     install(rt, arguments, &mut console)
 }
 
 /// The command `install` over a disk.
 pub(crate) fn install_on(alloc: Global, disk: &Disk, arguments: &InstallArguments<'_>) -> Run {
+    let mut written: Vec<u8> = Vec::new(alloc);
     let mut reported: Vec<u8> = Vec::new(alloc);
-    let done = install_over(alloc, &DiskRuntime { disk }, arguments, &mut reported);
-    run_of(done, reported)
+    let rt = DiskRuntime { disk };
+    let done = install_over(alloc, &rt, arguments, &mut written, &mut reported);
+    run_of(done, written, reported)
 }

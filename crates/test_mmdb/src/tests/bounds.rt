@@ -1,4 +1,4 @@
-//! Networks chosen by numbers that are greater or less than others.
+//! Networks chosen by numbers that are greater or less than others, or the same.
 use super::exports::{file_of_nodes, lines_hold};
 use super::program::{assert_of, run_of};
 use std::alloc::{AllocError, Global};
@@ -91,9 +91,52 @@ const OF_LARGE: &[Row<'static>] = &[
     (&["--where-above", "n=-1e-18446744073709551615", "--where-below", "n=1e-323"], "0 -0.0 5e-324"),
     (&["--where-above", "n=4.9e-324", "--where-below", "n=0.1"], "5e-324"),
     (&["--where-above", "n=5e-324", "--where-below", "n=0.1"], ""),
-    // a map, and what is not there, is no number
+    // a map is no number
     (&["--where-above", "=-1e9"], ""),
-    (&["--where-below", "x=0"], ""),
+];
+
+#[rattlefmt::skip]
+const OF_SAME: &[Row<'static>] = &[
+    // an integer in several forms; the text 10 is compared as it is
+    (&["--where", "n=9"], "9"),
+    (&["--where", "n=9.0"], "9"),
+    (&["--where", "n=0.9e1"], "9"),
+    (&["--where", "n=900E-2"], "9"),
+    (&["--where", "n=9.0000000000000000000000001"], ""),
+    (&["--where", "n=10"], "10 10"),
+    (&["--where", "n=1e1"], "10"),
+    (&["--where", "n=-7.0"], "-7"),
+    (&["--where", "n=-70e-1"], "-7"),
+    (&["--where", "n=7"], ""),
+    (&["--where", "n=18446744073709551615.0"], "18446744073709551615"),
+    (&["--where", "n=18446744073709551616"], ""),
+    (&["--where", "n=340282366920938463463374607431768211455.00"], "340282366920938463463374607431768211455"),
+    (&["--where", "n=3.40282366920938463463374607431768211455e38"], "340282366920938463463374607431768211455"),
+    // a double or a float is what the text is read as
+    (&["--where", "n=9.50"], "9.5"),
+    (&["--where", "n=95e-1"], "9.5"),
+    (&["--where", "n=9.50000000000000000001"], "9.5"),
+    (&["--where", "n=9.50000001"], ""),
+    (&["--where", "n=1000e297"], "1e300"),
+    (&["--where", "n=4.9e-324"], "5e-324"),
+    (&["--where", "n=0.10"], "0.1"),
+    (&["--where", "n=0.1000000001"], "0.1"),
+    (&["--where", "n=0.10001"], ""),
+    // 0, with a sign too; an integer is compared exactly
+    (&["--where", "n=0"], "0 -0.0"),
+    (&["--where", "n=-0"], "0 -0.0"),
+    (&["--where", "n=0.0e5"], "0 -0.0"),
+    (&["--where", "n=1e-400"], "-0.0"),
+    // neither infinity nor what is no number of JSON
+    (&["--where", "n=1e400"], ""),
+    (&["--where", "n=09"], ""),
+    (&["--where", "n=+9"], ""),
+    (&["--where", "n=9."], ""),
+    (&["--where", "n=9 "], ""),
+    // alternatives, and what is not wanted
+    (&["--where", "n=9.0", "--where", "n=95e-1"], "9 9.5"),
+    (&["--where-above", "n=8", "--where-below", "n=11", "--where-not", "n=9.0"], "10 9.5"),
+    (&["--where-above", "n=8", "--where-below", "n=11", "--where-not", "n=1e1", "--where-not", "n=9.50"], "9"),
 ];
 
 // The records of the values, and where each begins.
@@ -173,6 +216,38 @@ fn large_numbers(rt: HostRuntime) {
     assert_numbers(&rt, rt.alloc(), OF_LARGE);
 }
 
+#[test]
+fn same_numbers(rt: HostRuntime) {
+    assert_numbers(&rt, rt.alloc(), OF_SAME);
+}
+
+/// Two networks: of one the value at "m" is 7, of the other a map that ends before its three pairs.
+const MAP_CUT: &[u8] = b"\xE1\x41m\xA1\x07\xE1\x41m\xE3";
+
+/// Arguments, standard output, and what each line of standard error has to hold.
+type CutRow<'a> = (&'a [&'a str], &'a str, &'a [&'a str]);
+
+#[rattlefmt::skip]
+const OF_MAP_CUT: &[CutRow<'static>] = &[
+    (&["export", "here.mmdb", "--where-has", "m", "--format", "cidr"], "0.0.0.0/0\n", &[]),
+    (&["export", "here.mmdb", "--where", "m=7.0", "--format", "cidr"], "0.0.0.0/1\n", &[]),
+    (&["export", "here.mmdb", "--where-not", "m=7.0", "--format", "cidr"], "128.0.0.0/1\n", &[]),
+    (&["export", "here.mmdb", "--where-contains", "m=7", "--format", "cidr", "--allow-missing"], "", &["no network has the TEXT of --where-contains m=7"]),
+    (&["export", "here.mmdb", "--where-above", "m=6", "--format", "cidr"], "0.0.0.0/1\n", &[]),
+    // a step into it is more than its header
+    (&["export", "here.mmdb", "128.0.0.0/1", "--where", "m.a=7", "--format", "cidr"], "", &["no network that is asked for has m.a=7", "128.0.0.0/1: ", "1 networks could not be read"]),
+];
+
+#[test]
+fn maps_are_not_read(rt: HostRuntime) {
+    let bytes = file_of_nodes(&rt, rt.alloc(), &[(17, 22)], b"\xC1\x01", MAP_CUT);
+    for (words, written, message) in OF_MAP_CUT {
+        let run = run_of(rt.alloc(), bytes.as_slice(), words, "");
+        let holds = run.out() == *written && lines_hold(run.err(), message);
+        assert_of(&rt, words, &run, holds);
+    }
+}
+
 /// Arguments, standard output, what each line of standard error has to hold, and the status.
 type ListRow<'a> = (&'a [&'a str], &'a str, &'a [&'a str], u8);
 
@@ -182,6 +257,13 @@ const LISTS: &[ListRow<'static>] = &[
         &["export", "here.mmdb", "--where-above", "n=9", "--format", "cidr"],
         "32.0.0.0/3\n64.0.0.0/4\n96.0.0.0/4\n128.0.0.0/4\n",
         &[],
+        0,
+    ),
+    // what is not there is no number
+    (
+        &["export", "here.mmdb", "--where-below", "x=0", "--field", "n", "--format", "csv"],
+        "network,n\n",
+        &["mmdb: no record has x"],
         0,
     ),
     // what no network has

@@ -47,6 +47,12 @@ const FIRST_LACKS: Database<'static> = (EARLIER, b"\xC1\x02", IPV4);
 
 const SECOND_LACKS: Database<'static> = (LATER, b"\xC1\x02", IPV4);
 
+/// A text that is not UTF-8 in 0.0.0.0/1, DE in 128.0.0.0/1. Of one node: offset o is 17 + o.
+const ONE_UNCLEAN: Database<'static> = (&[(43, 17)], b"\xC1\x01", IPV4);
+
+/// AT in ::/1, DE in 8000::/1.
+const NARROW: Database<'static> = (&[(30, 17)], b"\xC1\x01", IPV6);
+
 /// DE everywhere.
 const WIDE: Database<'static> = (&[(17, 17)], b"\xC1\x01", IPV6);
 
@@ -61,6 +67,11 @@ type Row<'a> = (
 );
 
 const NOTHING: &str = "0 (0) added, 0 (0) removed, 0 (0) changed";
+
+/// What is said at the end of one network that can't be read.
+const ONE_UNREAD: &str = "mmdb: 1 networks could not be read";
+
+const TWO_UNREAD: &str = "mmdb: 2 networks could not be read";
 
 #[rattlefmt::skip]
 const ROWS: &[Row<'static>] = &[
@@ -135,6 +146,7 @@ const ROWS: &[Row<'static>] = &[
         &[
             "mmdb: new.mmdb: a network behind 96.0.0.0/3: invalid database",
             "0 (0) added, 1 (1073741824) removed, 3 (1610612736) changed",
+            ONE_UNREAD,
         ],
         1,
     ),
@@ -143,7 +155,7 @@ const ROWS: &[Row<'static>] = &[
         BEFORE,
         &["32.0.0.0/3"],
         "",
-        &["mmdb: here.mmdb: 32.0.0.0/3: ", NOTHING],
+        &["mmdb: here.mmdb: 32.0.0.0/3: ", NOTHING, ONE_UNREAD],
         1,
     ),
     // networks on both sides of one that can't be read are not joined
@@ -155,19 +167,30 @@ const ROWS: &[Row<'static>] = &[
         &[
             "mmdb: new.mmdb: a network behind 0.0.0.0/3: invalid database",
             "0 (0) added, 0 (0) removed, 2 (1610612736) changed",
+            ONE_UNREAD,
         ],
         1,
     ),
     (
         SHORT,
         UNCLEAN,
-        &["--field", "c.i", "--format", "csv"],
-        "network,old.c.i,new.c.i\n0.0.0.0/3,DE,AT\n64.0.0.0/2,DE,AT\n",
+        &["--field", "c", "--format", "csv"],
+        "network,old.c,new.c\n0.0.0.0/3,\"{\"\"i\"\":\"\"DE\"\"}\",\"{\"\"i\"\":\"\"AT\"\"}\"\n64.0.0.0/2,\"{\"\"i\"\":\"\"DE\"\"}\",\"{\"\"i\"\":\"\"AT\"\"}\"\n",
         &[
             "mmdb: new.mmdb: 32.0.0.0/3: ",
             "0 (0) added, 0 (0) removed, 2 (1610612736) changed",
+            ONE_UNREAD,
         ],
         1,
+    ),
+    // a field of a text is nowhere, whatever the text is
+    (
+        SHORT,
+        UNCLEAN,
+        &["--field", "c.i", "--format", "csv"],
+        "network,old.c.i,new.c.i\n0.0.0.0/3,DE,AT\n32.0.0.0/3,DE,\n64.0.0.0/2,DE,AT\n",
+        &["0 (0) added, 0 (0) removed, 3 (2147483648) changed"],
+        0,
     ),
     (
         SHORT,
@@ -179,6 +202,7 @@ const ROWS: &[Row<'static>] = &[
         &[
             "mmdb: new.mmdb: 32.0.0.0/3: ",
             "0 (0) added, 0 (0) removed, 2 (1610612736) changed",
+            ONE_UNREAD,
         ],
         1,
     ),
@@ -227,6 +251,55 @@ const ROWS: &[Row<'static>] = &[
         &["1 (2147483648) added, 0 (0) removed, 0 (0) changed"],
         0,
     ),
+    // what changes in a list: nft does it whole or not at all, and ipset passes over what is done already
+    (
+        BEFORE,
+        AFTER,
+        &["--where", "c.i=DE", "--format", "nft"],
+        "define mmdb_ipv4_removed = {
+0.0.0.0/2
+}
+define mmdb_ipv4_added = {
+0.0.0.0/3
+}
+delete element inet mmdb mmdb_ipv4 $mmdb_ipv4_removed; add element inet mmdb mmdb_ipv4 $mmdb_ipv4_added
+",
+        &[],
+        0,
+    ),
+    (
+        BEFORE,
+        AFTER,
+        &["--where", "c.i=DE", "--format", "ipset", "--exit-code"],
+        "del mmdb_ipv4 0.0.0.0/2 -exist\nadd mmdb_ipv4 0.0.0.0/3 -exist\n",
+        &[],
+        7,
+    ),
+    (BEFORE, AFTER, &["--where", "c.i=DE", "--format", "cidr"], "-0.0.0.0/2\n+0.0.0.0/3\n", &[], 0),
+    // rows of one kind of addresses
+    (WIDE, NARROW, &["--field", "c.i", "--ipv6", "--format", "csv"], "network,old.c.i,new.c.i\n::/1,DE,AT\n", &["0 (0) added, 0 (0) removed, 1 (0) changed"], 0),
+    (
+        WIDE,
+        NARROW,
+        &["--field", "c.i", "--ipv4", "--format", "csv"],
+        "network,old.c.i,new.c.i\n0.0.0.0/0,DE,AT\n",
+        &["0 (0) added, 0 (0) removed, 1 (4294967296) changed"],
+        0,
+    ),
+    (SHORT, BEFORE, &["--ipv6"], "", &[NOTHING], 0),
+    // one network that can't be read is named and counted once, however many the other file has there
+    (
+        ONE_UNCLEAN,
+        BEFORE,
+        &["--field", "c"],
+        "{\"network\":\"128.0.0.0/3\",\"old\":{\"c\":{\"i\":\"DE\"}},\"new\":{\"c\":null}}\n",
+        &[
+            "mmdb: here.mmdb: 0.0.0.0/1: ",
+            "0 (0) added, 1 (536870912) removed, 0 (0) changed",
+            ONE_UNREAD,
+        ],
+        1,
+    ),
     (SHORT, WIDE, &["2000::/3"], "", &["mmdb: here.mmdb: invalid input"], 1),
     (WIDE, WIDE, &["2000::/3"], "", &[NOTHING], 0),
     (SHORT, SHORT, &["x"], "", &["x: not a network"], 2),
@@ -253,6 +326,7 @@ const COPIES: &[Row<'static>] = &[
             "mmdb: here.mmdb: a network behind 96.0.0.0/3: invalid database: ",
             "mmdb: new.mmdb: a network behind 96.0.0.0/3: invalid database: ",
             NOTHING,
+            "mmdb: 3 networks could not be read",
         ],
         1,
     ),
@@ -265,10 +339,11 @@ const COPIES: &[Row<'static>] = &[
             "mmdb: here.mmdb: a network behind 96.0.0.0/3: invalid database: ",
             "mmdb: new.mmdb: a network behind 96.0.0.0/3: invalid database: ",
             NOTHING,
+            TWO_UNREAD,
         ],
         1,
     ),
-    (FAULTY, FAULTY, &["32.0.0.0/3"], "", &["mmdb: here.mmdb: 32.0.0.0/3: invalid database", NOTHING], 1),
+    (FAULTY, FAULTY, &["32.0.0.0/3"], "", &["mmdb: here.mmdb: 32.0.0.0/3: invalid database", NOTHING, ONE_UNREAD], 1),
     (FAULTY, FAULTY, &["64.0.0.0/2", "--exit-code"], "", &[NOTHING], 0),
     (FAULTY, FAULTY, &["0.0.0.0/2", "--field", "n"], "", &[NOTHING], 0),
     (
@@ -280,31 +355,28 @@ const COPIES: &[Row<'static>] = &[
             "mmdb: here.mmdb: a network before any other: invalid database: ",
             "mmdb: new.mmdb: a network before any other: invalid database: ",
             NOTHING,
+            TWO_UNREAD,
         ],
         1,
     ),
-    (UNCLEAN, UNCLEAN, &["--exit-code"], "", &["mmdb: here.mmdb: 32.0.0.0/3: ", NOTHING], 1),
+    (UNCLEAN, UNCLEAN, &["--exit-code"], "", &["mmdb: here.mmdb: 32.0.0.0/3: ", NOTHING, ONE_UNREAD], 1),
     (UNCLEAN, UNCLEAN, &["--field", "n"], "", &[NOTHING], 0),
     (
         UNCLEAN,
         UNCLEAN,
         &["--field", "n", "--field", "c", "--format", "csv"],
         "network,old.n,old.c,new.n,new.c\n",
-        &["mmdb: here.mmdb: 32.0.0.0/3: ", NOTHING],
+        &["mmdb: here.mmdb: 32.0.0.0/3: ", NOTHING, ONE_UNREAD],
         1,
     ),
-    // a path that meets a value of another type, which only some records have
+    // a path that meets a value of another type leads nowhere
     (
         BEFORE,
         BEFORE,
         &["64.0.0.0/2", "--field", "n.x", "--exit-code"],
         "",
-        &[
-            "mmdb: here.mmdb: 64.0.0.0/3: decoding error at offset 24 (path: /n/x): ",
-            "mmdb: here.mmdb: 96.0.0.0/3: decoding error at offset 11 (path: /n/x): ",
-            NOTHING,
-        ],
-        1,
+        &["mmdb: no record has n.x", NOTHING],
+        0,
     ),
     (BEFORE, BEFORE, &["128.0.0.0/3", "--field", "n.x"], "", &[NOTHING], 0),
 ];

@@ -1,5 +1,6 @@
 //! Databases that are found elsewhere.
 use super::program::{Run, assert_of, file_of, terminals, words_with};
+use mmdb_files::SharedFiles;
 use mmdb_program::{Io, run};
 use mmdb_vectors::base::BASE_FILE;
 use mmdb_vectors::file::{TestFile, TestFiles};
@@ -103,6 +104,8 @@ impl<'a> Files for Spread<'a> {
         self.files.remove_dir_all(alloc, path)
     }
 }
+
+impl SharedFiles for Spread<'_> {}
 
 impl Env for Spread<'_> {
     fn arg(&self, i: usize, buf: &mut [u8]) -> Result<usize, FillError> {
@@ -224,7 +227,7 @@ const COMMANDS: &[Row<'static>] = &[
     (
         &["verify", "here.mmdb", "--newer-than", "City"],
         1,
-        "here.mmdb: it was built at 1, not after 1\n",
+        "here.mmdb: it was built at 1 (1970-01-01T00:00:01Z), not after 1 (1970-01-01T00:00:01Z)\n",
         "mmdb: City: /usr/share/GeoIP/City.mmdb\n",
     ),
     (&["enrich", "City", "--field", "", "--quiet"], 0, "200.0.0.1\tx\n", ""),

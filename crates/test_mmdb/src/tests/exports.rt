@@ -34,6 +34,7 @@ const RECORDS: &str =
 
 const CELLS: &str = "network,a,n
 0.0.0.0/3,\"x,\"\"y\"\"\",7
+32.0.0.0/3,,
 64.0.0.0/3,\"x,\"\"y\"\"\",7
 192.0.0.0/3,\"{\"\"b\"\":true}\",
 224.0.0.0/3,,
@@ -50,11 +51,18 @@ const THREE: &[&str] = &[
     "3 networks could not be read",
 ];
 
+/// A field of a text is nowhere, whatever the text is.
+const TWO: &[&str] = &[
+    "a network behind 64.0.0.0/3: invalid database",
+    "160.0.0.0/3: ",
+    "2 networks could not be read",
+];
+
 #[rattlefmt::skip]
 const ROWS: &[Row<'static>] = &[
     // faults are reported in their places, and nothing before or after them is lost
     (&["export", "here.mmdb"], RECORDS, THREE),
-    (&["export", "here.mmdb", "--field", "a", "--field", "n", "--format", "csv"], CELLS, THREE),
+    (&["export", "here.mmdb", "--field", "a", "--field", "n", "--format", "csv"], CELLS, TWO),
     // a fault in a field that is not asked for is none
     (
         &["export", "here.mmdb", "160.0.0.0/3", "--field", "a.b", "--format", "csv"],
@@ -81,8 +89,8 @@ const ROWS: &[Row<'static>] = &[
     // a range without data has a header alone
     (&["export", "here.mmdb", "96.0.0.0/3", "--field", "a", "--format", "csv"], "network,a\n", &[]),
     (&["export", "here.mmdb", "96.0.0.0/3", "--field", "a"], "", &[]),
-    // an address is the network of one, and shows the one around it
-    (&["export", "here.mmdb", "65.0.0.1", "--field", "n"], "{\"network\":\"64.0.0.0/3\",\"n\":7}\n", &[]),
+    // an address is the network of one, and a row ends where it does
+    (&["export", "here.mmdb", "65.0.0.1", "--field", "n"], "{\"network\":\"65.0.0.1/32\",\"n\":7}\n", &[]),
 ];
 
 // A file of these nodes, their count as it is encoded, and data.

@@ -22,13 +22,13 @@ const COMMANDS: &[&[&str]] = &[
         "here.mmdb",
         "here.mmdb",
         "--field",
-        "a",
+        "",
         "--format",
         "csv",
     ],
     &["verify", "here.mmdb"],
     &["enrich", "here.mmdb", "--field", ""],
-    &["enrich", "here.mmdb", "--header", "--field", "a"],
+    &["enrich", "here.mmdb", "--header", "--field", ""],
     &["enrich", "here.mmdb", "--json", "a", "--field", ""],
 ];
 

@@ -34,23 +34,37 @@ const ROWS: &[Row<'static>] = &[
         "{\"ip\":\"1.1.1.1\",\"geo\":{\"c\":null,\"n\":null}}\n{\"ip\":\"33.0.0.1\",\"geo\":{\"c\":\"city\",\"n\":9}}\n{\"ip\":\"70.0.0.1\",\"geo\":{\"c\":\"own\",\"n\":9}}\n{\"ip\":\"130.0.0.1\",\"geo\":{\"c\":\"q\\\",t\\tab\",\"n\":7}}\n{\"ip\":\"200.0.0.1\"}\n{\"ip\":\"-\",\"geo\":{\"c\":null,\"n\":null}}\n[]\n{\"geo\":{\"c\":null,\"n\":null}}\n",
         &["mmdb: 3 lines with a record, 1 without, 2 without an address, 1 with an error, 1 not objects of JSON\n"],
     ),
-    // null where none of the records has a value, and none where a path can't be followed
+    // null where none of the records has a value
     (
         OWN, CITY, &["--json", "ip", "--field", "x", "--field", "c"], "{\"ip\":\"70.0.0.1\"}\n", 0,
-        "{\"ip\":\"70.0.0.1\",\"geo\":{\"x\":null,\"c\":\"own\"}}\n", &["mmdb: no record has x\nmmdb: 1 lines with a record"],
+        "{\"ip\":\"70.0.0.1\",\"geo\":{\"x\":null,\"c\":\"own\"}}\n", &["mmdb: none of the lines' records has x\nmmdb: 1 lines with a record"],
+    ),
+    // and null where a key meets no map
+    (
+        OWN, CITY, &["--json", "ip", "--field", "c.d", "--field", "n"], "{\"ip\":\"70.0.0.1\"}\n", 0,
+        "{\"ip\":\"70.0.0.1\",\"geo\":{\"d\":null,\"n\":9}}\n",
+        &["mmdb: none of the lines' records has c.d\n", "1 lines with a record, 0 without, 0 without an address, 0 with an error"],
     ),
     (
-        OWN, CITY, &["--json", "ip", "--field", "c.d", "--field", "n"], "{\"ip\":\"70.0.0.1\"}\n", 1, "{\"ip\":\"70.0.0.1\"}\n",
-        &["mmdb: row 1: here.mmdb: decoding error", "0 lines with a record, 0 without, 0 without an address, 1 with an error"],
-    ),
-    (
-        CITY, OWN, &["--json", "ip", "--field", "n", "--field", "c.d"], "{\"ip\":\"130.0.0.1\"}\n", 1, "{\"ip\":\"130.0.0.1\"}\n",
-        &["mmdb: row 1: here.mmdb: decoding error"],
+        CITY, OWN, &["--json", "ip", "--field", "n", "--field", "c.d"], "{\"ip\":\"130.0.0.1\"}\n", 0,
+        "{\"ip\":\"130.0.0.1\",\"geo\":{\"n\":7,\"d\":null}}\n",
+        &["mmdb: none of the lines' records has c.d\n"],
     ),
     // whole records are those of the first database that has one
     (
         OWN, CITY, &["--json", "ip", "--field", "r="], "{\"ip\":\"33.0.0.1\"}\n{\"ip\":\"70.0.0.1\"}\n", 0,
         "{\"ip\":\"33.0.0.1\",\"geo\":{\"r\":{\"c\":\"city\",\"n\":9}}}\n{\"ip\":\"70.0.0.1\",\"geo\":{\"r\":{\"c\":\"own\"}}}\n", &["2 lines with a record"],
+    ),
+    // without a field the record of each by its name, and nulls; one that can't be read is an error
+    (
+        OWN, CITY, &["--json", "ip"], ALL, 1,
+        "{\"ip\":\"1.1.1.1\"}\n{\"ip\":\"33.0.0.1\",\"geo\":{\"T\":null,\"new.mmdb\":{\"c\":\"city\",\"n\":9}}}\n{\"ip\":\"70.0.0.1\",\"geo\":{\"T\":{\"c\":\"own\"},\"new.mmdb\":{\"c\":\"city\",\"n\":9}}}\n{\"ip\":\"130.0.0.1\",\"geo\":{\"T\":{\"n\":7},\"new.mmdb\":{\"c\":\"q\\\",t\\tab\"}}}\n{\"ip\":\"200.0.0.1\"}\n{\"ip\":\"-\"}\n[]\n{}\n",
+        &["mmdb: row 5: here.mmdb: ", "mmdb: 3 lines with a record, 1 without, 2 without an address, 1 with an error, 1 not objects of JSON\n"],
+    ),
+    (
+        OWN, CITY, &["--json", "ip", "--nulls", "--into", "r"], "{\"ip\":\"1.1.1.1\"}\n{\"ip\":\"33.0.0.1\"}\n{}\n", 0,
+        "{\"ip\":\"1.1.1.1\",\"r\":null}\n{\"ip\":\"33.0.0.1\",\"r\":{\"T\":null,\"new.mmdb\":{\"c\":\"city\",\"n\":9}}}\n{\"r\":null}\n",
+        &["mmdb: 1 lines with a record, 1 without, 1 without an address, 0 with an error"],
     ),
     // the same records again, with and without an error
     (
@@ -171,7 +185,6 @@ type Rejected<'a> = (&'a [&'a str], u8, &'a [&'a str]);
 #[rattlefmt::skip]
 const REJECTED: &[Rejected<'static>] = &[
     (&["enrich", "here.mmdb", "gone.mmdb", "--json", "ip", "--field", "c"], 1, &["mmdb: gone.mmdb: i/o error: entity not found\n"]),
-    (&["enrich", "here.mmdb", "gone.mmdb", "--json", "ip"], 2, &["--json: needs a --field where there are several databases"]),
     (&["enrich", "gone.mmdb", "--json", "ip", "--network"], 2, &["--network: with --json needs a --field; --field record= has the whole record"]),
     (&["enrich", "gone.mmdb", "here.mmdb", "--json", "ip", "--network"], 2, &["--network: with --json needs a --field"]),
     (&["enrich", "gone.mmdb", "--json", "ip", "--network", "--field", "network=c"], 2, &["network=c: the name network is taken"]),

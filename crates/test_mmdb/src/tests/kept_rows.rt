@@ -183,6 +183,21 @@ fn one_by_one(
     all
 }
 
+/// How many networks are named that can't be read.
+const MOST_NAMED: usize = 10;
+
+// As many lines of a text as are named at most.
+fn first_lines(text: &[u8]) -> &[u8] {
+    let mut lines = 0usize;
+    for (place, byte) in text.iter().enumerate() {
+        lines = lines.saturating_add(usize::from(*byte == b'\n'));
+        if lines >= MOST_NAMED {
+            return text.get(..place).unwrap_or(text);
+        }
+    }
+    text
+}
+
 // Asserts that all networks together are exported as one by one.
 fn assert_same(
     rt: &impl Abort,
@@ -198,7 +213,8 @@ fn assert_same(
         reported: Vec::new(alloc),
     };
     add_run(rt, &run, form.1, &mut all);
-    let is_same = all.written == wanted.written && all.reported == wanted.reported;
+    let is_same = all.written == wanted.written
+        && first_lines(all.reported.as_slice()) == first_lines(wanted.reported.as_slice());
     assert_of(rt, form.0, &run, is_same);
     assert!(rt;
         (form.1 == 0 && all.written == run.written) || form.1 == 1,

@@ -95,10 +95,10 @@ const ROWS: &[Row<'static>] = &[
         "1.1.1.1\t\t\n33.0.0.1\tcity\t9\n70.0.0.1\tcity\t9\n130.0.0.1\t\"q\\\",t\\tab\"\t7\n200.0.0.1\tcity\t9\n-\t\t\n",
         &["mmdb: 4 lines with a record, 1 without, 1 without an address, 0 with an error\n"],
     ),
-    // the way of a path that can't be followed is an error, not a reason to ask the next
+    // a key where there is no map leads nowhere, and is no error
     (
-        OWN, CITY, &["--field", "c.d", "--field", "n"], "70.0.0.1\n", 1, "70.0.0.1\t\t9\n",
-        &["mmdb: row 1: here.mmdb: decoding error", "0 lines with a record, 0 without, 0 without an address, 1 with an error\n"],
+        OWN, CITY, &["--field", "c.d", "--field", "n"], "70.0.0.1\n", 0, "70.0.0.1\t\t9\n",
+        &["mmdb: none of the lines' records has c.d\n", "1 lines with a record, 0 without, 0 without an address, 0 with an error\n"],
     ),
     // a record beside one after another, each read once or more
     (
@@ -108,7 +108,7 @@ const ROWS: &[Row<'static>] = &[
 1.1.1.1\ttext\ttrue\t-2\t300\t70000\t1099511627776\t1.5\t2.5\t\"/w==\"\t[1]\t1\t\t\t
 70.0.0.1\ttext\ttrue\t-2\t300\t70000\t1099511627776\t1.5\t2.5\t\"/w==\"\t[1]\t1\t\tcity\t9
 ",
-        &["mmdb: no record has q\nmmdb: 4 lines with a record, 0 without"],
+        &["mmdb: none of the lines' records has q\nmmdb: 4 lines with a record, 0 without"],
     ),
     // the same in the other order
     (
@@ -126,7 +126,19 @@ const ROWS: &[Row<'static>] = &[
     (
         OWN, CITY, &["--delimiter", ",", "--column", "2", "--field", "n", "--field", "c"],
         "\"a\n,\",130.0.0.1\r\nx,\"70.0.0.1\"\n", 0,
-        "\"a\n,\",130.0.0.1,7,\"q\"\",t\tab\"\r\nx,\"70.0.0.1\",9,own\n", &["2 lines with a record"],
+        "\"a\n,\",130.0.0.1,7,\"q\"\",t\\tab\"\r\nx,\"70.0.0.1\",9,own\n", &["2 lines with a record"],
+    ),
+    // without quotes the delimiter and control characters are as JSON escapes them, in JSON too
+    (
+        OWN, CITY, &["--delimiter", ",", "--no-quotes", "--field", "c", "--field", "r="],
+        "130.0.0.1\n33.0.0.1\n", 0,
+        "130.0.0.1,q\"\\u002ct\\tab,{\"n\":7}\n33.0.0.1,city,{\"c\":\"city\"\\u002c\"n\":9}\n", &["2 lines with a record"],
+    ),
+    // a row with fewer cells than the first one, an empty one, and one with more
+    (
+        OWN, CITY, &["--header", "--network", "--field", "c"], "ip\tx\n70.0.0.1\n\n33.0.0.1\t1\t2\n", 0,
+        "ip\tx\tnetwork\tc\n70.0.0.1\t\t64.0.0.0/2\town\n\n33.0.0.1\t1\t2\t32.0.0.0/3\tcity\n",
+        &["2 lines with a record, 0 without, 1 without an address, 0 with an error, 1 with more cells than the first line, the first in row 4\n"],
     ),
     // the first row names the columns
     (
@@ -135,6 +147,7 @@ const ROWS: &[Row<'static>] = &[
     ),
     // anywhere in a row, and a hop
     (OWN, CITY, &["--anywhere", "--field", "c"], "from=70.0.0.1;\n", 0, "from=70.0.0.1;\town\n", &["1 lines with a record"]),
+    (OWN, CITY, &["--anywhere", "--hop", "last", "--field", "c"], "33.0.0.1 from=70.0.0.1;\n", 0, "33.0.0.1 from=70.0.0.1;\town\n", &["1 lines with a record"]),
     (OWN, CITY, &["--hop", "last", "--field", "c"], "33.0.0.1, 70.0.0.1\n", 0, "33.0.0.1, 70.0.0.1\town\n", &["1 lines with a record"]),
 ];
 
@@ -153,6 +166,10 @@ const OTHER_ROWS: &[Row<'static>] = &[
         OWN, CITY, &["--field", "c"], "::1\n70.0.0.1\n", 0, "::1\t\n70.0.0.1\town\n",
         &["mmdb: row 1: here.mmdb: invalid input: cannot look up IPv6", "1 lines with a record, 0 without, 0 without an address, 1 with an error\n"],
     ),
+    // a field that other records of a file have fails no --strict
+    (OWN, CITY, &["--field", "n", "--field", "c", "--strict"], "64.0.0.1\n", 0, "64.0.0.1\t9\town\n", &["1 lines with a record"]),
+    (CITY, OWN, &["--field", "n", "--strict"], "130.0.0.1\n", 0, "130.0.0.1\t7\n", &["1 lines with a record"]),
+    (SIX, NAMED, &["--field", "c", "--field", "q", "--strict"], "70.0.0.1\n", 1, "70.0.0.1\tsix\t\n", &["none of the lines' records has q\n"]),
     (OWN, CITY, &["--field", "c", "--strict"], "::1\n70.0.0.1\n", 1, "::1\t\n70.0.0.1\town\n", &["1 with an error"]),
     // a lookup that fails is an error, whatever the other has
     (
@@ -166,15 +183,15 @@ const OTHER_ROWS: &[Row<'static>] = &[
     // a field that no record of any has, with what may be meant of either
     (
         OWN, CITY, &["--field", "cc", "--field", "n", "--field", "nn"], "70.0.0.1\n", 0, "70.0.0.1\t\t9\t\n",
-        &["mmdb: no record has cc\nmmdb: no record has nn\nmmdb: 1 lines"],
+        &["mmdb: none of the lines' records has cc\nmmdb: none of the lines' records has nn\nmmdb: 1 lines"],
     ),
     (
         OWN, NAMED, &["--field", "organisation", "--field", "c"], "70.0.0.1\n", 0, "70.0.0.1\t\town\n",
-        &["mmdb: no record has organisation; did you mean organization?\nmmdb: 1 lines"],
+        &["mmdb: none of the lines' records has organisation; did you mean organization?\nmmdb: 1 lines"],
     ),
     (
         NAMED, OWN, &["--field", "organisation", "--field", "c"], "70.0.0.1\n", 0, "70.0.0.1\t\town\n",
-        &["mmdb: no record has organisation; did you mean organization?\nmmdb: 1 lines"],
+        &["mmdb: none of the lines' records has organisation; did you mean organization?\nmmdb: 1 lines"],
     ),
     (OWN, CITY, &["--field", "n"], "", 0, "", &["mmdb: 0 lines with a record, 0 without, 0 without an address, 0 with an error\n"]),
 ];
@@ -389,15 +406,15 @@ type Text<'a> = (&'a [u8], &'a str, &'a str);
 const TEXTS: &[Text<'static>] = &[
     (b"\xE1\x41a\x42DE", "DE", "DE"),
     (b"\xE1\x41a\x40", "", ""),
-    (b"\xE1\x41a\x43a\tb", "\"a\\tb\"", "a\tb"),
+    (b"\xE1\x41a\x43a\tb", "\"a\\tb\"", "a\\tb"),
     (b"\xE1\x41a\x46x,\"y\"z", "x,\"y\"z", "\"x,\"\"y\"\"z\""),
     // on both sides of a control character and of what is looked at at once
-    (b"\xE1\x41a\x41\x1F", "\"\\u001f\"", "\x1F"),
+    (b"\xE1\x41a\x41\x1F", "\"\\u001f\"", "\\u001f"),
     (b"\xE1\x41a\x42 ~", " ~", " ~"),
     (b"\xE1\x41a\x4F0123456789abcde", "0123456789abcde", "0123456789abcde"),
     (b"\xE1\x41a\x500123456789abcdef", "0123456789abcdef", "0123456789abcdef"),
-    (b"\xE1\x41a\x500123456789abcde\t", "\"0123456789abcde\\t\"", "0123456789abcde\t"),
-    (b"\xE1\x41a\x51\t123456789abcdefg", "\"\\t123456789abcdefg\"", "\t123456789abcdefg"),
+    (b"\xE1\x41a\x500123456789abcde\t", "\"0123456789abcde\\t\"", "0123456789abcde\\t"),
+    (b"\xE1\x41a\x51\t123456789abcdefg", "\"\\t123456789abcdefg\"", "\\t123456789abcdefg"),
     (b"\xE1\x41a\x51123456789abcdef\xC3\xA9", "123456789abcdef\u{E9}", "123456789abcdef\u{E9}"),
 ];
 

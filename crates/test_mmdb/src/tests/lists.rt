@@ -89,6 +89,25 @@ const OF_WHOLE: &[Row<'static>] = &[
     (&["--where", "c.i=AT", "--where", "n=7", "--format", "cidr"], "", &[]),
     // rows may be none
     (&["--where", "c.i=de"], "", &[]),
+    // a path of a condition that no record has is named, with the one that may be meant, and all is done
+    (&["--where", "c.j=DE"], "", &["mmdb: no record has c.j; did you mean c.i?"]),
+    (&["--where-has", "x", "--where", "c.i=AT"], "", &["mmdb: no record has x"]),
+    (&["--where", "c.i=AT", "--where-not", "C.I=x", "--field", "n"], "{\"network\":\"64.0.0.0/3\",\"n\":true}\n", &["mmdb: no record has C.I; did you mean c.i?"]),
+    (&["--where-above", "m=3"], "", &["mmdb: no record has m"]),
+    (
+        &["--where", "c.j=DE", "--format", "nft"],
+        "",
+        &["no network has c.j=DE (did you mean c.i=DE?); --allow-empty writes an empty list"],
+    ),
+    (
+        &["--where-has", "c.j", "--where-contains", "c.I=A", "--where-above", "m=6", "--format", "pf"],
+        "",
+        &[
+            "no network has the TEXT of --where-contains c.I=A (did you mean c.i=A?); --allow-empty writes an empty list",
+            "no network has the PATH of --where-has c.j (did you mean c.i?); --allow-empty writes an empty list",
+            "no network has what --where-above m=6 asks for; --allow-empty writes an empty list",
+        ],
+    ),
     // neither a map nor what is not there is a text
     (
         &["--where", "c={\"i\":\"DE\"}", "--format", "nft"],
@@ -105,7 +124,7 @@ const OF_WHOLE: &[Row<'static>] = &[
     (&["--format", "cidr", "--ipv6", "--allow-empty"], "", &[]),
     (&["--format", "cidr", "--ipv4", "--ipv6"], "0.0.0.0/1\n160.0.0.0/3\n192.0.0.0/2\n", &[]),
     (&["128.0.0.0/1", "--format", "cidr"], "160.0.0.0/3\n192.0.0.0/2\n", &[]),
-    // a list has no address outside the range, and a row the network as it is
+    // neither a list nor a row has an address outside the range
     (&["32.0.0.0/4", "--format", "cidr"], "32.0.0.0/4\n", &[]),
     (&["0.0.0.0/0", "--format", "cidr"], "0.0.0.0/1\n160.0.0.0/3\n192.0.0.0/2\n", &[]),
     (&["36.5.0.0/16", "--where", "c.i=DE", "--format", "cidr"], "36.5.0.0/16\n", &[]),
@@ -114,23 +133,19 @@ const OF_WHOLE: &[Row<'static>] = &[
         "",
         &["no network that is asked for has c.i=AT; --allow-empty writes an empty list"],
     ),
-    (&["36.5.0.0/16", "--field", "n"], "{\"network\":\"32.0.0.0/3\",\"n\":7}\n", &[]),
+    (&["36.5.0.0/16", "--field", "n"], "{\"network\":\"36.5.0.0/16\",\"n\":7}\n", &[]),
     // every format is of the chosen networks
     (&["--where", "c.i=AT", "--field", "n"], "{\"network\":\"64.0.0.0/3\",\"n\":true}\n", &[]),
     (&["--where", "n=true", "--field", "c.i", "--format", "csv"], "network,c.i\n64.0.0.0/3,AT\n", &[]),
     (
         &["--where", "c.i=DE", "--format", "nft", "--name", "blocked"],
-        "add table inet mmdb
-add set inet mmdb blocked_ipv4 { type ipv4_addr; flags interval; }
-flush set inet mmdb blocked_ipv4
-add set inet mmdb blocked_ipv6 { type ipv6_addr; flags interval; }
-flush set inet mmdb blocked_ipv6
-add element inet mmdb blocked_ipv4 {
+        "define blocked_ipv4 = {
 0.0.0.0/2,
 96.0.0.0/3,
 160.0.0.0/3,
 192.0.0.0/2
 }
+add table inet mmdb; add set inet mmdb blocked_ipv4 { type ipv4_addr; flags interval; }; flush set inet mmdb blocked_ipv4; add element inet mmdb blocked_ipv4 $blocked_ipv4; add set inet mmdb blocked_ipv6 { type ipv6_addr; flags interval; }; flush set inet mmdb blocked_ipv6
 ",
         &[],
     ),
@@ -142,22 +157,47 @@ add element inet mmdb blocked_ipv4 {
     ),
     (
         &["--where", "c.i=FR", "--format", "nft", "--ipv4", "--allow-empty"],
-        "add table inet mmdb
-add set inet mmdb mmdb_ipv4 { type ipv4_addr; flags interval; }
-flush set inet mmdb mmdb_ipv4
+        "add table inet mmdb; add set inet mmdb mmdb_ipv4 { type ipv4_addr; flags interval; }; flush set inet mmdb mmdb_ipv4
 ",
         &[],
     ),
     (
         &["--where", "c.i=AT", "--format", "ipset"],
         "create mmdb_ipv4 hash:net family inet maxelem 4294967295 -exist
-flush mmdb_ipv4
+create mmdb_ipv4.new hash:net family inet maxelem 4294967295 -exist
+destroy mmdb_ipv4.new
+create mmdb_ipv4.new hash:net family inet maxelem 4294967295
 create mmdb_ipv6 hash:net family inet6 maxelem 4294967295 -exist
-flush mmdb_ipv6
-add mmdb_ipv4 64.0.0.0/3
+create mmdb_ipv6.new hash:net family inet6 maxelem 4294967295 -exist
+destroy mmdb_ipv6.new
+create mmdb_ipv6.new hash:net family inet6 maxelem 4294967295
+add mmdb_ipv4.new 64.0.0.0/3
+swap mmdb_ipv4.new mmdb_ipv4
+swap mmdb_ipv6.new mmdb_ipv6
+destroy mmdb_ipv4.new
+destroy mmdb_ipv6.new
 ",
         &[],
     ),
+    // a name with `_ipv4.new` behind it has 31 bytes
+    (
+        &["--where", "c.i=AT", "--format", "ipset", "--ipv4", "--name", "a123456789012345678901"],
+        "create a123456789012345678901_ipv4 hash:net family inet maxelem 4294967295 -exist
+create a123456789012345678901_ipv4.new hash:net family inet maxelem 4294967295 -exist
+destroy a123456789012345678901_ipv4.new
+create a123456789012345678901_ipv4.new hash:net family inet maxelem 4294967295
+add a123456789012345678901_ipv4.new 64.0.0.0/3
+swap a123456789012345678901_ipv4.new a123456789012345678901_ipv4
+destroy a123456789012345678901_ipv4.new
+",
+        &[],
+    ),
+];
+
+/// What is said of a list from which a network is missing.
+const TORN_LIST: &[&str] = &[
+    "a network behind 96.0.0.0/3: invalid database",
+    "1 networks could not be read",
 ];
 
 #[rattlefmt::skip]
@@ -167,6 +207,44 @@ const OF_DAMAGED: &[Row<'static>] = &[
         &["--where-not", "c=x", "--format", "cidr", "--allow-missing"],
         "0.0.0.0/3\n64.0.0.0/2\n160.0.0.0/3\n",
         &["32.0.0.0/3: ", "a network behind 96.0.0.0/3: invalid database", "2 networks could not be read"],
+    ),
+    // a list that is not whole has not what lets it be loaded, or ends in what is no address
+    (
+        &["--where", "n=7", "--format", "nft", "--ipv4"],
+        "define mmdb_ipv4 = {\n0.0.0.0/3,\n64.0.0.0/3,\n160.0.0.0/3\n}\n",
+        TORN_LIST,
+    ),
+    (
+        &["--where", "n=7", "--format", "ipset", "--ipv4"],
+        "create mmdb_ipv4 hash:net family inet maxelem 4294967295 -exist
+create mmdb_ipv4.new hash:net family inet maxelem 4294967295 -exist
+destroy mmdb_ipv4.new
+create mmdb_ipv4.new hash:net family inet maxelem 4294967295
+add mmdb_ipv4.new 0.0.0.0/3
+add mmdb_ipv4.new 64.0.0.0/3
+add mmdb_ipv4.new 160.0.0.0/3
+",
+        TORN_LIST,
+    ),
+    (
+        &["--where", "n=7", "--format", "iptables"],
+        "*filter\n:mmdb - [0:0]\n-A mmdb -4 -s 0.0.0.0/3 -j DROP\n-A mmdb -4 -s 64.0.0.0/3 -j DROP\n-A mmdb -4 -s 160.0.0.0/3 -j DROP\n",
+        TORN_LIST,
+    ),
+    (
+        &["--where", "n=7", "--format", "nginx"],
+        "geo $mmdb {\n    0.0.0.0/3 1;\n    64.0.0.0/3 1;\n    160.0.0.0/3 1;\n",
+        TORN_LIST,
+    ),
+    (
+        &["--where", "n=7", "--format", "haproxy"],
+        "0.0.0.0/3 1\n64.0.0.0/3 1\n160.0.0.0/3 1\nthis-list/is-not-whole\n",
+        TORN_LIST,
+    ),
+    (
+        &["--where", "n=7", "--format", "pf"],
+        "0.0.0.0/3\n64.0.0.0/3\n160.0.0.0/3\nthis-list/is-not-whole\n",
+        TORN_LIST,
     ),
     // the JSON of an integer, and a text
     (
@@ -259,6 +337,14 @@ const WITH_INPUT: &[InputRow<'static>] = &[
         "",
         &["c.i=@-: no network has 2 of the 2 values: FR, CH"],
         1,
+    ),
+    // of numbers in another form
+    (
+        &["export", "here.mmdb", "--where", "n=@-", "--format", "cidr"],
+        "70e-1\n7.1\n",
+        "0.0.0.0/2\n96.0.0.0/3\n160.0.0.0/3\n192.0.0.0/2\n",
+        &["n=@-: no network has 1 of the 2 values: 7.1"],
+        0,
     ),
     (
         &["export", "here.mmdb", "--where-contains", "c.i=A", "--format", "cidr"],
@@ -409,6 +495,65 @@ const OF_LINES_AND_NAMES: &[InputRow<'static>] = &[
         &["-:2: \u{feff}11.0.0.0/8: not a network, an address or FIRST-LAST"],
         1,
     ),
+    // blanks around values, comments, and texts in double quotes
+    (
+        &["export", "here.mmdb", "--where", "c.i=@-", "--format", "pf"],
+        "# ours\n  AT \t # one\n\"\\u0044E\" # the other\n",
+        "0.0.0.0/1\n160.0.0.0/3\n192.0.0.0/2\n",
+        &[],
+        0,
+    ),
+    (
+        &["export", "here.mmdb", "--where", "c.i=@-", "--format", "cidr"],
+        "AT#1\n\"C # 1\"\nAT\n",
+        "64.0.0.0/3\n",
+        &["c.i=@-: no network has 2 of the 3 values: AT#1, C # 1"],
+        0,
+    ),
+    (
+        &["export", "here.mmdb", "--where", "c.i=@-", "--format", "pf"],
+        "AT\n\"DE\n",
+        "",
+        &["-:2: not a text in double quotes as JSON writes it"],
+        1,
+    ),
+    (
+        &["export", "here.mmdb", "--where", "c.i=@-", "--format", "pf"],
+        "\"DE\" AT\n",
+        "",
+        &["-:1: not a text in double quotes as JSON writes it"],
+        1,
+    ),
+    // a line of blocks ends at a semicolon too
+    (
+        &["export", "here.mmdb", "--where", "c.i=AT", "--format", "pf", "--also", "-"],
+        "; Spamhaus\n10.0.0.0/8 ; SBL1\n",
+        "10.0.0.0/8\n64.0.0.0/3\n",
+        &[],
+        0,
+    ),
+    // a range within ::ffff:0:0/96 is one of IPv4 where the file has no networks of its own there
+    (
+        &["export", "here.mmdb", "::ffff:64.0.0.0/104", "--format", "cidr"],
+        "",
+        "64.0.0.0/8\n",
+        &["mmdb: ::ffff:64.0.0.0/104 is read as 64.0.0.0/8"],
+        0,
+    ),
+    (
+        &["export", "here.mmdb", "::ffff:64.0.0.0/104", "--field", "c.i"],
+        "",
+        "{\"network\":\"64.0.0.0/8\",\"c.i\":\"AT\"}\n",
+        &["mmdb: ::ffff:64.0.0.0/104 is read as 64.0.0.0/8"],
+        0,
+    ),
+    (
+        &["diff", "here.mmdb", "here.mmdb", "::ffff:64.0.0.0/104", "--field", "c.i"],
+        "",
+        "",
+        &["mmdb: ::ffff:64.0.0.0/104 is read as 64.0.0.0/8", "0 (0) added"],
+        0,
+    ),
     // IPv4 addresses as IPv6 has them, where all of a block are
     (
         &["export", "here.mmdb", "--where", "c.i=AT", "--format", "pf", "--except", "-"],
@@ -532,12 +677,10 @@ const OF_OTHER_NAMES: &[InputRow<'static>] = &[
     (
         &["export", "here.mmdb", "--where", "c.i=AT", "--format", "nft", "--ipv4", "--table", "t", "--family", "ip"],
         "",
-        "add table ip t
-add set ip t mmdb_ipv4 { type ipv4_addr; flags interval; }
-flush set ip t mmdb_ipv4
-add element ip t mmdb_ipv4 {
+        "define mmdb_ipv4 = {
 64.0.0.0/3
 }
+add table ip t; add set ip t mmdb_ipv4 { type ipv4_addr; flags interval; }; flush set ip t mmdb_ipv4; add element ip t mmdb_ipv4 $mmdb_ipv4
 ",
         &[],
         0,
@@ -554,6 +697,13 @@ add element ip t mmdb_ipv4 {
         "",
         "",
         &["a-b: not a variable's name"],
+        2,
+    ),
+    (
+        &["export", "here.mmdb", "--format", "nft", "--name", "a1234567890123456789012"],
+        "",
+        "",
+        &["a1234567890123456789012: not the beginning of a set's name: 1 to 22 letters"],
         2,
     ),
     // what changes: nothing, where both files are one
@@ -578,6 +728,7 @@ add element ip t mmdb_ipv4 {
         &["--where: needs --format cidr, nft or ipset"],
         2,
     ),
+    (&["diff", "here.mmdb", "here.mmdb", "--ipv4"], "", "", &["0 (0) added"], 0),
 ];
 
 // Asserts what the rows say of runs with standard input.
@@ -696,9 +847,13 @@ const OF_ALL: &[(&[u8], &[Row<'static>])] = &[
             (
                 &["--format", "ipset", "--ipv4"],
                 "create mmdb_ipv4 hash:net family inet maxelem 4294967295 -exist
-flush mmdb_ipv4
-add mmdb_ipv4 0.0.0.0/1
-add mmdb_ipv4 128.0.0.0/1
+create mmdb_ipv4.new hash:net family inet maxelem 4294967295 -exist
+destroy mmdb_ipv4.new
+create mmdb_ipv4.new hash:net family inet maxelem 4294967295
+add mmdb_ipv4.new 0.0.0.0/1
+add mmdb_ipv4.new 128.0.0.0/1
+swap mmdb_ipv4.new mmdb_ipv4
+destroy mmdb_ipv4.new
 ",
                 &[],
             ),
@@ -707,17 +862,31 @@ add mmdb_ipv4 128.0.0.0/1
     (
         b"\xA1\x06",
         &[
-            (&["--format", "cidr"], "::/0\n", &[]),
+            // lookups of IPv4 find ::/1, and a list of IPv4 has what they find
+            (&["--format", "cidr"], "0.0.0.0/0\n::/0\n", &[]),
+            (&["--format", "cidr", "--ipv4"], "0.0.0.0/0\n", &[]),
+            (&["--format", "cidr", "--ipv6"], "::/0\n", &[]),
+            (&["1.2.0.0/16", "--format", "cidr"], "1.2.0.0/16\n", &[]),
+            (&["1.2.0.0/16", "--format", "cidr", "--ipv4"], "1.2.0.0/16\n", &[]),
+            (&["1.2.0.0/16", "--format", "cidr", "--ipv6", "--allow-empty"], "", &[]),
+            (&["::/112", "--format", "cidr"], "0.0.0.0/16\n::/112\n", &[]),
+            (&["::/90", "--format", "cidr", "--ipv4"], "0.0.0.0/0\n", &[]),
+            (&["4000::/2", "--format", "cidr"], "4000::/2\n", &[]),
+            (&["4000::/2", "--format", "cidr", "--ipv4"], "", &[]),
+            (&["--where", "c.i=DE", "--format", "pf", "--ipv4"], "0.0.0.0/0\n", &[]),
             (
                 &["--format", "ipset", "--ipv6"],
                 "create mmdb_ipv6 hash:net family inet6 maxelem 4294967295 -exist
-flush mmdb_ipv6
-add mmdb_ipv6 ::/1
-add mmdb_ipv6 8000::/1
+create mmdb_ipv6.new hash:net family inet6 maxelem 4294967295 -exist
+destroy mmdb_ipv6.new
+create mmdb_ipv6.new hash:net family inet6 maxelem 4294967295
+add mmdb_ipv6.new ::/1
+add mmdb_ipv6.new 8000::/1
+swap mmdb_ipv6.new mmdb_ipv6
+destroy mmdb_ipv6.new
 ",
                 &[],
             ),
-            (&["--format", "nft", "--ipv4"], "", NONE),
         ],
     ),
 ];
@@ -731,6 +900,85 @@ fn lists_of_all_addresses(rt: HostRuntime) {
         let bytes = bytes.expect(&rt, "a file");
         assert_rows(&rt, rt.alloc(), bytes.as_slice(), rows);
     }
+}
+
+/// Blocks within ::ffff:0:0/96, which are taken away from networks that a file has there and from those of IPv4.
+#[rattlefmt::skip]
+const OF_MAPPED: &[InputRow<'static>] = &[
+    (
+        &["export", "here.mmdb", "::ffff:0:0/96", "--format", "cidr", "--except", "-"],
+        "::ffff:0:0/97\n",
+        "::ffff:128.0.0.0/97\n",
+        &[],
+        0,
+    ),
+    (
+        &["export", "here.mmdb", "--format", "cidr", "--ipv4", "--except", "-"],
+        "::ffff:0:0/97\n",
+        "128.0.0.0/1\n",
+        &[],
+        0,
+    ),
+    // one of IPv4 leaves those as they are
+    (
+        &["export", "here.mmdb", "::ffff:0:0/96", "--format", "cidr", "--except", "-"],
+        "0.0.0.0/1\n",
+        "::ffff:0.0.0.0/96\n",
+        &[],
+        0,
+    ),
+];
+
+#[test]
+fn lists_without_mapped_addresses(rt: HostRuntime) {
+    let nodes = nodes_24(rt.alloc(), &[(17, 17)]).expect(&rt, "nodes");
+    let changes: &[(Field, &[u8])] = &[(Field::IpVersion, b"\xA1\x06")];
+    let bytes = changed_file(rt.alloc(), nodes.as_slice(), DATA, changes);
+    let bytes = bytes.expect(&rt, "a file");
+    assert_input_rows(&rt, rt.alloc(), bytes.as_slice(), OF_MAPPED);
+}
+
+/// Seven nodes, each of which leads to the next one twice: 128 networks.
+const DOUBLED: &[(u32, u32)] = &[(1, 1), (2, 2), (3, 3), (4, 4), (5, 5), (6, 6), (23, 23)];
+
+/// Commands that go through all networks, over such a file.
+const OVER_DOUBLED: &[&[&str]] = &[
+    &["export", "here.mmdb"],
+    &["export", "here.mmdb", "--format", "nft"],
+    &["export", "here.mmdb", "new.mmdb"],
+    &["diff", "here.mmdb", "new.mmdb"],
+    &[
+        "diff",
+        "here.mmdb",
+        "new.mmdb",
+        "--where",
+        "c.i=DE",
+        "--format",
+        "cidr",
+    ],
+    &["info", "here.mmdb", "--fields"],
+];
+
+#[test]
+fn trees_of_too_many_networks(rt: HostRuntime) {
+    let bytes = file_of_nodes(&rt, rt.alloc(), DOUBLED, b"\xC1\x07", DATA);
+    let files = two_files(bytes.as_slice(), bytes.as_slice());
+    let wanted =
+        "mmdb: here.mmdb: its search tree leads to more networks than its nodes can have; see mmdb verify\n";
+    for words in OVER_DOUBLED {
+        let run = run_over(rt.alloc(), &files, words, "", false);
+        let holds = run.status == 1 && run.out().is_empty() && run.err() == wanted;
+        assert_of(&rt, words, &run, holds);
+    }
+    // within a range there may be fewer
+    let words = &["export", "here.mmdb", "0.0.0.0/5", "--format", "cidr"];
+    let run = run_over(rt.alloc(), &files, words, "", false);
+    assert_of(
+        &rt,
+        words,
+        &run,
+        run.status == 0 && run.out() == "0.0.0.0/5\n",
+    );
 }
 
 /// Words of a run that is done, and what each line of standard error has to hold.

@@ -32,8 +32,11 @@ const NAMED: &[Row<'static>] = &[
         "{\"address\":\"200.0.0.1\",\"cc\":\"DE\",\"n\":7}\n{\"address\":\"1.1.1.1\",\"cc\":null,\"n\":null}\n", "",
     ),
     (&["show", "here.mmdb", "200.0.0.1", "--path", "n=c.j"], "", 6, "{\"address\":\"200.0.0.1\",\"n\":null}\n", "mmdb: no record has c.j; did you mean c.i?\n"),
-    // a record that can't be read so has no object
-    (&["show", "here.mmdb", "200.0.0.1", "--field", "a=n", "--field", "b=n.0"], "", 1, "", "mmdb: 200.0.0.1: decoding error at offset 11 (path: /n/0): expected array for Index(0), got type 5\n"),
+    // a path that meets a value of another type leads nowhere
+    (
+        &["show", "here.mmdb", "200.0.0.1", "--field", "a=n", "--field", "b=n.0"], "", 6,
+        "{\"address\":\"200.0.0.1\",\"a\":7,\"b\":null}\n", "mmdb: no record has n.0\n",
+    ),
     (
         &["enrich", "here.mmdb", "--quiet", "--header", "--column", "ip", "--field", "cc=c.i", "--path", "n"],
         "ip\n200.0.0.1\n", 0, "ip\tcc\tn\n200.0.0.1\tDE\t7\n", "",

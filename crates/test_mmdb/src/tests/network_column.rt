@@ -58,10 +58,10 @@ const ALONE: &[Alone<'static>] = &[
     // CSV
     (
         CITY, &["--delimiter", ",", "--column", "2", "--network", "--field", "c"], "\"a\n,\",130.0.0.1\r\nx,\n", 0,
-        "\"a\n,\",130.0.0.1,128.0.0.0/2,\"q\"\",t\tab\"\r\nx,,,\n", &["1 lines with a record"],
+        "\"a\n,\",130.0.0.1,128.0.0.0/2,\"q\"\",t\\tab\"\r\nx,,,\n", &["1 lines with a record"],
     ),
     // a delimiter that a network has in it
-    (CITY, &["--delimiter", "/", "--no-quotes", "--network", "--field", "n"], "33.0.0.1\n", 0, "33.0.0.1/\"32.0.0.0/3\"/9\n", &["1 lines with a record"]),
+    (CITY, &["--delimiter", "/", "--no-quotes", "--network", "--field", "n"], "33.0.0.1\n", 0, "33.0.0.1/32.0.0.0\\u002f3/9\n", &["1 lines with a record"]),
     (CITY, &["--delimiter", "/", "--network", "--field", "n"], "33.0.0.1\n", 0, "33.0.0.1/\"32.0.0.0/3\"/9\n", &["1 lines with a record"]),
     // anywhere in a row
     (CITY, &["--anywhere", "--network"], "from=70.0.0.1;\nnone\n", 0, "from=70.0.0.1;\t64.0.0.0/2\nnone\t\n", &["1 lines with a record"]),

@@ -1,5 +1,6 @@
 //! Databases that are replaced while rows pass.
 use super::program::{Run, assert_of, file_of, terminals, words_with};
+use mmdb_files::SharedFiles;
 use mmdb_program::{Io, run};
 use mmdb_vectors::base::BASE_FILE;
 use mmdb_vectors::file::{TestFile, TestFiles};
@@ -11,11 +12,12 @@ use std::io::{self, BufReader, Read};
 use std::rt::Files;
 use std::time::{Clock, Duration};
 
-/// The file at the path at a time, if there is one, and its size as it is told.
+/// The file at the path at a time, if there is one, its size as it is told, and whether it is a plain file.
 #[derive(Clone, Copy)]
 struct Stage<'a> {
     bytes: Option<&'a [u8]>,
     size: u64,
+    is_plain: bool,
 }
 
 /// A runtime with a file that another one may replace with each line that comes.
@@ -37,6 +39,7 @@ impl<'a> Changing<'a> {
             None => Stage {
                 bytes: None,
                 size: 0,
+                is_plain: true,
             },
         }
     }
@@ -60,10 +63,13 @@ impl<'a> Files for Changing<'a> {
 
     fn metadata(&self, path: &str) -> io::Result<Metadata> {
         let now = self.now();
-        if path == "here.mmdb" && now.bytes.is_some() {
+        if path != "here.mmdb" || now.bytes.is_none() {
+            return Err(io::Error::from(io::ErrorKind::NotFound));
+        }
+        if now.is_plain {
             Ok(Metadata::of_file(now.size))
         } else {
-            Err(io::Error::from(io::ErrorKind::NotFound))
+            Ok(Metadata::of_dir())
         }
     }
 
@@ -95,6 +101,8 @@ impl<'a> Files for Changing<'a> {
         self.files.remove_dir_all(alloc, path)
     }
 }
+
+impl SharedFiles for Changing<'_> {}
 
 impl Env for Changing<'_> {
     fn arg(&self, i: usize, buf: &mut [u8]) -> Result<usize, FillError> {
@@ -196,7 +204,13 @@ fn variant(alloc: Global, record: u8, kind: u8) -> Vec<u8> {
 
 const WITH: &[&str] = &["enrich", "here.mmdb", "--field", "", "--reload"];
 
+/// The size by which the stages tell what is no plain file.
+const NOT_PLAIN: u64 = 9;
+
 const WITHOUT: &[&str] = &["enrich", "here.mmdb", "--field", ""];
+
+const COUNTED_ALL: &str =
+    "mmdb: 9 lines with a record, 0 without, 0 without an address, 0 with an error\n";
 
 const COUNTED: &str =
     "mmdb: 8 lines with a record, 0 without, 0 without an address, 0 with an error\n";
@@ -221,19 +235,26 @@ fn replaced_databases_are_opened_anew(rt: HostRuntime) {
         // one of another type, and none
         (Some(foreign.as_slice()), 4),
         (None, 0),
+        // what is no plain file is not opened
+        (Some(first.as_slice()), NOT_PLAIN),
         // the second one again, and then the first
         (Some(second.as_slice()), 2),
         (Some(first.as_slice()), 1),
     ];
     let mut staged = Vec::new(alloc);
     for (bytes, size) in stages {
-        let _ = staged.push(Stage { bytes, size });
+        let is_plain = size != NOT_PLAIN;
+        let _ = staged.push(Stage {
+            bytes,
+            size,
+            is_plain,
+        });
     }
     let run = run_changing(alloc, WITH, staged.as_slice(), 1_000).expect(&rt, "an input");
     let x = "200.0.0.1\tx\n";
     let y = "200.0.0.1\ty\n";
     let mut out = String::new(alloc);
-    for line in [x, y, y, y, y, y, y, x] {
+    for line in [x, y, y, y, y, y, y, y, x] {
         let _ = out.push_str(line);
     }
     let holds = run.status == 0 && run.out() == out.as_str();
@@ -242,7 +263,7 @@ fn replaced_databases_are_opened_anew(rt: HostRuntime) {
     let other =
         "mmdb: here.mmdb was replaced by one of the type U, not T; the database before it stays in use\n";
     let err = run.err();
-    let says = err.contains(kept) && err.contains(other) && err.ends_with(COUNTED);
+    let says = err.contains(kept) && err.contains(other) && err.ends_with(COUNTED_ALL);
     assert_of(&rt, WITH, &run, says && err.lines().count() == 4);
 }
 
@@ -266,7 +287,11 @@ fn files_are_looked_at_once_a_second(rt: HostRuntime) {
     for line in 0..9 {
         let (bytes, size) = if line < 2 { (&first, 1) } else { (&second, 2) };
         let bytes = Some(bytes.as_slice());
-        let _ = stages.push(Stage { bytes, size });
+        let _ = stages.push(Stage {
+            bytes,
+            size,
+            is_plain: true,
+        });
     }
     for (texts, pause, before) in CASES {
         let run = run_changing(alloc, texts, stages.as_slice(), *pause).expect(&rt, "an input");

@@ -13,6 +13,9 @@ type Lines<'a> = (&'a [&'a str], &'a str, &'a str, &'a str);
 
 const FOUND: &str = "{\"address\":\"200.0.0.1\",\"network\":\"128.0.0.0/1\",\"record\":\"x\"}\n";
 
+const MAPPED: &str =
+    "{\"address\":\"::ffff:200.0.0.1\",\"network\":\"128.0.0.0/1\",\"record\":\"x\"}\n";
+
 const ABSENT: &str = "{\"address\":\"1.1.1.1\",\"network\":\"0.0.0.0/1\",\"record\":null}\n";
 
 #[rattlefmt::skip]
@@ -22,6 +25,8 @@ const BASE_RUNS: &[Row<'static>] = &[
     (&["show", "here.mmdb", "200.0.0.1", "--path", ""], 0, "\"x\"\n", ""),
     (&["show", "here.mmdb", "1.1.1.1", "--path", "a.b"], 6, "null\n", ""),
     (&["show", "here.mmdb", "::1"], 1, "", "::1: invalid input: cannot look up IPv6"),
+    // an address that is mapped to one of IPv4 is looked up as that
+    (&["show", "here.mmdb", "::ffff:200.0.0.1"], 0, MAPPED, ""),
     (&["show", "here.mmdb", "1.1.1.1", "::1"], 1, ABSENT, "::1: invalid input"),
     (&["show", "here.mmdb", "::1", "200.0.0.1"], 1, FOUND, "::1: invalid input"),
     (&["show", "gone.mmdb", "200.0.0.1"], 1, "", "gone.mmdb: i/o error: "),
@@ -33,7 +38,8 @@ const BASE_RUNS: &[Row<'static>] = &[
     (&["show", "gone.mmdb", "1.1.1.1", "--path", "+1"], 2, "", "+1: not a path"),
     (&["show", "gone.mmdb", "1.1.1.1", "--path", "a.-0"], 2, "", "a.-0: not a path"),
     (&["show", "gone.mmdb", "1.1.1.1", "--path", "a.00"], 2, "", "a.00: not a path"),
-    (&["show", "here.mmdb", "200.0.0.1", "--path", "\"00\""], 1, "", "path: /00"),
+    // a key where there is no map leads nowhere
+    (&["show", "here.mmdb", "200.0.0.1", "--path", "\"00\""], 6, "null\n", "mmdb: no record has \"00\"\n"),
     (&["show", "gone.mmdb", "no\n\u{1b}[2J\u{9b}"], 2, "", "mmdb: no\\n\\u001b[2J\\u009b: neither an address nor a file\n"),
     (&["show", "gone\n.mmdb", "1.1.1.1"], 1, "", "mmdb: gone\\n.mmdb: i/o error: "),
     (&["show", "gone.mmdb"], 2, "", "ADDR"),
@@ -41,7 +47,7 @@ const BASE_RUNS: &[Row<'static>] = &[
     (&["verify", "here.mmdb", "here.mmdb"], 0, "here.mmdb: ok\nhere.mmdb: ok\n", ""),
     (&["info", "gone.mmdb"], 1, "", "gone.mmdb: i/o error: "),
     (&["export", "here.mmdb"], 0, "{\"network\":\"128.0.0.0/1\",\"record\":\"x\"}\n", ""),
-    (&["export", "here.mmdb", "200.0.0.1"], 0, "{\"network\":\"128.0.0.0/1\",\"record\":\"x\"}\n", ""),
+    (&["export", "here.mmdb", "200.0.0.1"], 0, "{\"network\":\"200.0.0.1/32\",\"record\":\"x\"}\n", ""),
     (&["export", "here.mmdb", "1.0.0.0/8"], 0, "", ""),
     (&["export", "here.mmdb", "::/0"], 1, "", "here.mmdb: invalid input: cannot iterate IPv6"),
     (&["export", "gone.mmdb", "x"], 1, "", "x: neither a network nor a file"),
@@ -78,7 +84,8 @@ const NESTED: &[u8] = b"\xE1\x43a.b\x02\x04\xA1\x01\xE1\x410\x41y";
 const NESTED_RUNS: &[Row<'static>] = &[
     (&["show", "here.mmdb", "200.0.0.1", "--path", "\"a.b\".-1.\"0\""], 0, "\"y\"\n", ""),
     (&["show", "here.mmdb", "200.0.0.1", "--path", "\"a.b\".0", "--path", "c"], 6, "1\nnull\n", "mmdb: no record has c\n"),
-    (&["show", "here.mmdb", "200.0.0.1", "--path", "\"a.b\".1.0"], 1, "", "decoding error"),
+    // an index where there is no array leads nowhere
+    (&["show", "here.mmdb", "200.0.0.1", "--path", "\"a.b\".1.0"], 6, "null\n", "mmdb: no record has \"a.b\".1.0; did you mean \"a.b\".1?\n"),
     (
         &["info", "here.mmdb", "--fields"],
         0,
@@ -101,14 +108,14 @@ const LINES: &[Lines<'static>] = &[
     (
         &["enrich", "here.mmdb", "--field", ""],
         "200.0.0.1\n1.1.1.1\trest\n::1\r\nnone\n\n200.0.0.2",
-        "200.0.0.1\tx\n1.1.1.1\trest\t\n::1\t\r\nnone\t\n\t\n200.0.0.2\tx",
+        "200.0.0.1\tx\n1.1.1.1\trest\t\n::1\t\r\nnone\t\n\n200.0.0.2\tx",
         "2 lines with a record, 1 without, 2 without an address, 1 with an error",
     ),
     (
         &["enrich", "here.mmdb", "--column", "2", "--exact", "--field", "", "--field", "a"],
         "200.0.0.1\na\t200.0.0.1\tb\na\t200.0.0.1 \n",
         "200.0.0.1\t\t\na\t200.0.0.1\tb\tx\t\na\t200.0.0.1 \t\t\n",
-        "0 lines with a record, 0 without, 2 without an address, 1 with an error",
+        "1 lines with a record, 0 without, 2 without an address, 0 with an error",
     ),
     (
         &["enrich", "here.mmdb", "--header", "--column", "ip", "--field", ""],
@@ -127,7 +134,50 @@ const LINES: &[Lines<'static>] = &[
     (
         &["enrich", "here.mmdb", "--no-quotes", "--delimiter", "x", "--field", ""],
         "200.0.0.1\n",
-        "200.0.0.1x\"x\"\n",
+        "200.0.0.1x\\u0078\n",
+        "1 lines with a record",
+    ),
+    // a row with fewer cells than the first one gets the delimiters that it lacks; an empty one stays empty
+    (
+        &["enrich", "here.mmdb", "--header", "--field", ""],
+        "ip\ta\tb\n200.0.0.1\n1.1.1.1\tx\r\n\n200.0.0.1\t1\t2\n\r\n",
+        "ip\ta\tb\t\n200.0.0.1\t\t\tx\n1.1.1.1\tx\t\t\r\n\n200.0.0.1\t1\t2\tx\n\r\n",
+        "mmdb: 2 lines with a record, 1 without, 2 without an address, 0 with an error\n",
+    ),
+    (
+        &["enrich", "here.mmdb", "--header", "--delimiter", ",", "--column", "ip", "--network", "--field", ""],
+        "\"a,b\",ip,c\n\"x,\n\",200.0.0.1\n\",,\"\n\n",
+        "\"a,b\",ip,c,network,\n\"x,\n\",200.0.0.1,,128.0.0.0/1,x\n\",,\",,,,\n\n",
+        "mmdb: 1 lines with a record, 0 without, 2 without an address, 0 with an error\n",
+    ),
+    // one with more is counted, and the first named
+    (
+        &["enrich", "here.mmdb", "--header", "--delimiter", ";", "--field", ""],
+        "ip;a\n200.0.0.1;\";\"\n200.0.0.1;1;2\n200.0.0.1;1;2;3\n",
+        "ip;a;\n200.0.0.1;\";\";x\n200.0.0.1;1;2;x\n200.0.0.1;1;2;3;x\n",
+        "0 with an error, 2 with more cells than the first line, the first in row 3\n",
+    ),
+    (
+        &["enrich", "here.mmdb", "--header", "--delimiter", ",", "--field", ""],
+        "ip\n200.0.0.1,1\n",
+        "ip,\n200.0.0.1,1,x\n",
+        "0 with an error, 1 with more cells than the first line, the first in row 2\n",
+    ),
+    (&["enrich", "here.mmdb", "--delimiter", ",", "--network", "--field", ""], "\n200.0.0.1\n\r\n", "\n200.0.0.1,128.0.0.0/1,x\n\r\n", "2 without an address"),
+    // an address of IPv4 in one of IPv6, as a database without IPv6 has it
+    (&["enrich", "here.mmdb", "--field", ""], "::ffff:200.0.0.1\n::ffff:1.1.1.1\n", "::ffff:200.0.0.1\tx\n::ffff:1.1.1.1\t\n", "1 lines with a record, 1 without"),
+    // the first address of a row, or the last one
+    (&["enrich", "here.mmdb", "--anywhere", "--field", ""], "user 1.1.1.1 from 200.0.0.1 port 22\n", "user 1.1.1.1 from 200.0.0.1 port 22\t\n", "0 lines with a record, 1 without"),
+    (
+        &["enrich", "here.mmdb", "--anywhere", "--hop", "last", "--field", ""],
+        "user 1.1.1.1 from 200.0.0.1 port 22\n200.0.0.1\nfrom 200.0.0.1. /1.1.1.1 v1.2.3.4\nnone\n",
+        "user 1.1.1.1 from 200.0.0.1 port 22\tx\n200.0.0.1\tx\nfrom 200.0.0.1. /1.1.1.1 v1.2.3.4\tx\nnone\t\n",
+        "3 lines with a record, 0 without, 1 without an address",
+    ),
+    (
+        &["enrich", "here.mmdb", "--json", "m", "--anywhere", "--hop", "last", "--field", "r="],
+        "{\"m\":\"user 1.1.1.1 from 200.0.0.1 port 22\"}\n",
+        "{\"m\":\"user 1.1.1.1 from 200.0.0.1 port 22\",\"geo\":{\"r\":\"x\"}}\n",
         "1 lines with a record",
     ),
     // a mark at the beginning is no part of the first cell or name; anywhere else it is text
@@ -139,8 +189,17 @@ const LINES: &[Lines<'static>] = &[
         "\u{feff}\"ip\",b,\n200.0.0.1,c,x\n",
         "1 lines with a record",
     ),
+    // the network stands wherever there is a record, also where all fields are empty
+    (
+        &["enrich", "here.mmdb", "--network", "--field", "a"],
+        "200.0.0.1\n1.1.1.1\n",
+        "200.0.0.1\t128.0.0.0/1\t\n1.1.1.1\t\t\n",
+        "1 lines with a record, 1 without",
+    ),
     // nothing in, nothing out; a carriage return alone ends no header
     (&["enrich", "here.mmdb", "--header", "--field", "a"], "", "", "0 lines with a record, 0 without, 0 without"),
+    (&["enrich", "here.mmdb", "--header", "--column", "ip", "--field", "a"], "", "", "0 lines with a record, 0 without, 0 without"),
+    (&["enrich", "here.mmdb", "--header", "--delimiter", ",", "--column", "ip", "--network"], "", "", "0 lines with a record, 0 without, 0 without"),
     (&["enrich", "here.mmdb", "--header", "--field", "a"], "ip\r", "ip\r\ta", "0 lines with a record, 0 without, 0 without"),
 ];
 
@@ -195,11 +254,9 @@ const NO_LINES: &[Row<'static>] = &[
 /// Words that name a column, the first line, and what standard error has to hold where it has no such column.
 #[rattlefmt::skip]
 const NO_COLUMNS: &[(&[&str], &str, &str)] = &[
-    (&[], "", "mmdb: standard input: the first line has no column ip\n"),
     (&[], "address\n", "mmdb: standard input: the first line has no column ip, only: address\n"),
     (&[], "IP\t\"ip\"\tnäme\r\n1\tip\t3\n", "mmdb: standard input: the first line has no column ip, only: IP, \"ip\", näme\n"),
     (&[], "ip,a", "mmdb: standard input: the first line has no column ip, only: ip,a\n"),
-    (&["--delimiter", ","], "", "mmdb: standard input: the first line has no column ip\n"),
     (&["--delimiter", ","], "\"an \"\"ip\"\"\",b c,\n", "mmdb: standard input: the first line has no column ip, only: an \"ip\", b c, \n"),
     (&["--delimiter", ","], "ip\ta\u{1b}[2J,b", "mmdb: standard input: the first line has no column ip, only: ip\\ta\\u001b[2J, b\n"),
 ];
@@ -283,14 +340,14 @@ const JSON_LINES: &[Lines<'static>] = &[
     (
         &["enrich", "here.mmdb", "--json", "client.ips.1.\"ip v\"", "--into", "a\"b"],
         "{\"client\":{\"ips\":[0,{\"ip v\":\"200.0.0.1\"}]}}\n",
-        "{\"client\":{\"ips\":[0,{\"ip v\":\"200.0.0.1\"}]},\"a\\\"b\":{}}\n",
+        "{\"client\":{\"ips\":[0,{\"ip v\":\"200.0.0.1\"}]},\"a\\\"b\":\"x\"}\n",
         "1 lines with a record",
     ),
     // an index into an array, one past its end, and a key in its stead; of equal keys the last
     (
         &["enrich", "here.mmdb", "--json", "a.1"],
         "{\"a\":[[2],\"200.0.0.1\",3]}\n{\"a\":[\"200.0.0.1\"]}\n{\"a\":{\"1\":\"200.0.0.1\"}}\n",
-        "{\"a\":[[2],\"200.0.0.1\",3],\"geo\":{}}\n{\"a\":[\"200.0.0.1\"]}\n{\"a\":{\"1\":\"200.0.0.1\"}}\n",
+        "{\"a\":[[2],\"200.0.0.1\",3],\"geo\":\"x\"}\n{\"a\":[\"200.0.0.1\"]}\n{\"a\":{\"1\":\"200.0.0.1\"}}\n",
         "1 lines with a record, 0 without, 2 without an address",
     ),
     (
@@ -303,7 +360,7 @@ const JSON_LINES: &[Lines<'static>] = &[
     (
         &["enrich", "here.mmdb", "--json", "a.b"],
         "{\"a\":{\"b\":\"200.0.0.1\",\"c\":{\"b\":2}},\"b\":3}\n{\"b\":[{\"a\":{}}],\"a\":{\"c\":\"\\\\\",\"b\":\"1.1.1.1\",\"b\":\"200.0.0.1\"}}\n\t{ \"a\" :\r{ \"b\"\t: \"200.0.0.1\" } } \n{\"a\":{\"b\":\"1.1.1.1\"},\"a\":{\"\\u0062\":\"200.0.0.1\"}}\n",
-        "{\"a\":{\"b\":\"200.0.0.1\",\"c\":{\"b\":2}},\"b\":3,\"geo\":{}}\n{\"b\":[{\"a\":{}}],\"a\":{\"c\":\"\\\\\",\"b\":\"1.1.1.1\",\"b\":\"200.0.0.1\"},\"geo\":{}}\n\t{ \"a\" :\r{ \"b\"\t: \"200.0.0.1\" } ,\"geo\":{}} \n{\"a\":{\"b\":\"1.1.1.1\"},\"a\":{\"\\u0062\":\"200.0.0.1\"},\"geo\":{}}\n",
+        "{\"a\":{\"b\":\"200.0.0.1\",\"c\":{\"b\":2}},\"b\":3,\"geo\":\"x\"}\n{\"b\":[{\"a\":{}}],\"a\":{\"c\":\"\\\\\",\"b\":\"1.1.1.1\",\"b\":\"200.0.0.1\"},\"geo\":\"x\"}\n\t{ \"a\" :\r{ \"b\"\t: \"200.0.0.1\" } ,\"geo\":\"x\"} \n{\"a\":{\"b\":\"1.1.1.1\"},\"a\":{\"\\u0062\":\"200.0.0.1\"},\"geo\":\"x\"}\n",
         "4 lines with a record",
     ),
     // what is no object has no member
@@ -312,6 +369,14 @@ const JSON_LINES: &[Lines<'static>] = &[
         "{\"a\":null}\n{\"a\":\"200.0.0.1\"}\n{\"a\":[{\"b\":\"200.0.0.1\"}]}\n{\"a\":{\"b\":\"200.0.0.1\"},\"a\":5}\n{\"a\":{\"a\":{\"b\":\"200.0.0.1\"}}}\n",
         "{\"a\":null}\n{\"a\":\"200.0.0.1\"}\n{\"a\":[{\"b\":\"200.0.0.1\"}]}\n{\"a\":{\"b\":\"200.0.0.1\"},\"a\":5}\n{\"a\":{\"a\":{\"b\":\"200.0.0.1\"}}}\n",
         "0 lines with a record, 0 without, 5 without an address, 0 with an error, 0 not objects of JSON",
+    ),
+    // without a field the whole record, and without a record nothing, or null
+    (&["enrich", "here.mmdb", "--json", "a"], "{\"a\":\"200.0.0.1\"}\n{\"a\":\"1.1.1.1\"}\n{}\n", "{\"a\":\"200.0.0.1\",\"geo\":\"x\"}\n{\"a\":\"1.1.1.1\"}\n{}\n", "1 lines with a record, 1 without, 1 without an address"),
+    (
+        &["enrich", "here.mmdb", "--json", "a", "--nulls"],
+        "{\"a\":\"200.0.0.1\"}\n{\"a\":\"1.1.1.1\"}\n{}\n",
+        "{\"a\":\"200.0.0.1\",\"geo\":\"x\"}\n{\"a\":\"1.1.1.1\",\"geo\":null}\n{\"geo\":null}\n",
+        "1 lines with a record, 1 without, 1 without an address",
     ),
     (&["enrich", "here.mmdb", "--json", ""], "{}\n\"200.0.0.1\"\n", "{}\n\"200.0.0.1\"\n", "1 without an address, 0 with an error, 1 not objects of JSON"),
 ];
@@ -325,12 +390,12 @@ const NESTED_LINES: &[Lines<'static>] = &[
         "{\"a\":\"200.0.0.1\",\"geo\":{\"0\":\"y\",\"n\":1,\"c\":null,\"a.b\":[1,{\"0\":\"y\"}]}}\n",
         "1 lines with a record",
     ),
-    // a field that cannot be decoded
+    // an index where there is no array leads nowhere
     (
         &["enrich", "here.mmdb", "--json", "a", "--field", "\"a.b\".0", "--field", "n=\"a.b\".1.0"],
         "{\"a\":\"200.0.0.1\"}\n",
-        "{\"a\":\"200.0.0.1\"}\n",
-        "0 lines with a record, 0 without, 0 without an address, 1 with an error",
+        "{\"a\":\"200.0.0.1\",\"geo\":{\"0\":1,\"n\":null}}\n",
+        "1 lines with a record, 0 without, 0 without an address, 0 with an error",
     ),
 ];
 
@@ -349,14 +414,14 @@ const VERIFIED: &[Row<'static>] = &[
     (&["verify", "here.mmdb", "--database-type", "TT"], 1, "here.mmdb: its type is T, not TT\n", ""),
     // it was built a second after 1970 began, and now is 1,000,000 seconds after that
     (&["verify", "here.mmdb", "--max-age", "12"], 0, "here.mmdb: ok\n", ""),
-    (&["verify", "here.mmdb", "--max-age", "11"], 1, "here.mmdb: it was built at 1, more than 11 days ago\n", ""),
+    (&["verify", "here.mmdb", "--max-age", "11"], 1, "here.mmdb: it was built at 1 (1970-01-01T00:00:01Z), more than 11 days ago\n", ""),
     (&["verify", "here.mmdb", "--max-age", "18446744073709551615"], 0, "here.mmdb: ok\n", ""),
     (&["verify", "here.mmdb", "--max-age", "x"], 2, "", "mmdb: --max-age: not a number of days\n"),
     (&["verify", "gone.mmdb", "--max-age", "+5"], 2, "", "mmdb: --max-age: not a number of days\n"),
     (&["verify", "here.mmdb", "--database-type", "***"], 0, "here.mmdb: ok\n", ""),
     (&["verify", "here.mmdb", "--database-type", "**T"], 0, "here.mmdb: ok\n", ""),
     (&["verify", "gone.mmdb", "--database-type", "T*T"], 2, "", "mmdb: --database-type: a * inside, and not at an end\n"),
-    (&["verify", "here.mmdb", "--newer-than", "here.mmdb"], 1, "here.mmdb: it was built at 1, not after 1\n", ""),
+    (&["verify", "here.mmdb", "--newer-than", "here.mmdb"], 1, "here.mmdb: it was built at 1 (1970-01-01T00:00:01Z), not after 1 (1970-01-01T00:00:01Z)\n", ""),
     (&["verify", "here.mmdb", "--newer-than", "gone.mmdb"], 1, "", "mmdb: gone.mmdb: i/o error: "),
     (&["verify", "here.mmdb", "--json"], 0, "{\"path\":\"here.mmdb\",\"ok\":true,\"type\":\"T\",\"epoch\":1,\"nodes\":1,\"unreadable_records\":0,\"error\":null}\n", ""),
     (&["verify", "here.mmdb", "--json", "--whole"], 0, "{\"path\":\"here.mmdb\",\"ok\":true,\"type\":\"T\",\"epoch\":1,\"nodes\":1,\"unreadable_records\":null,\"error\":null}\n", ""),
@@ -388,8 +453,6 @@ const NO_JSON: &[Row<'static>] = &[
     (&["enrich", "gone.mmdb", "--field", "c", "--nulls"], 2, "", "--nulls: needs a --json"),
     (&["enrich", "gone.mmdb", "--field", "c", "--no-quotes"], 2, "", "--no-quotes: needs a --delimiter"),
     (&["enrich", "gone.mmdb", "--field", "c", "--anywhere", "--exact"], 2, "", "--exact"),
-    (&["enrich", "gone.mmdb", "--field", "c", "--anywhere", "--hop", "last"], 2, "", "--hop: of no use with --anywhere"),
-    (&["enrich", "gone.mmdb", "--json", "a", "--anywhere", "--hop", "last"], 2, "", "--hop: of no use with --anywhere"),
     (&["enrich", "gone.mmdb", "--json", "a", "--column", "1"], 2, "", "--column"),
     (&["enrich", "gone.mmdb", "--json", "a", "--delimiter", ","], 2, "", "--delimiter"),
     (&["enrich", "gone.mmdb", "--json", "a", "--header"], 2, "", "--header"),
@@ -425,17 +488,30 @@ const NOTES: &[Notes<'static>] = &[
         "mmdb: no object had an address at client.ip\nmmdb: 0 lines with a record, 0 without, 1 without an address, 0 with an error, 0 not objects of JSON\n",
     ),
     (&["enrich", "here.mmdb", "--field", "", "--quiet"], "none\n", 0, ""),
+    // an address without a record is no failure; what got no answer is one with --strict
+    (&["enrich", "here.mmdb", "--field", "", "--strict", "--quiet"], "200.0.0.1\n1.1.1.1\n", 0, ""),
+    (&["enrich", "here.mmdb", "--field", "", "--strict", "--quiet"], "200.0.0.1\nnone\n", 1, ""),
+    (&["enrich", "here.mmdb", "--field", "", "--quiet"], "200.0.0.1\nnone\n", 0, ""),
+    (&["enrich", "here.mmdb", "--json", "a", "--strict", "--quiet"], "{\"a\":\"200.0.0.1\"}\n[]\n", 1, ""),
+    (&["enrich", "here.mmdb", "--json", "a", "--quiet"], "{\"a\":\"200.0.0.1\"}\n[]\n", 0, ""),
+    (&["enrich", "here.mmdb", "--json", "a", "--strict", "--quiet"], "{\"a\":\"200.0.0.1\"}\n{\"a\":\"200.0.0.1\",\"geo\":1}\n", 1, ""),
+    (&["enrich", "here.mmdb", "--json", "a", "--quiet"], "{\"a\":\"200.0.0.1\",\"geo\":1}\n", 0, ""),
+    (&["enrich", "here.mmdb", "--field", "", "--header", "--strict", "--quiet"], "ip\n200.0.0.1\t1\n", 1, ""),
+    (
+        &["enrich", "here.mmdb", "--field", "", "--strict"], "200.0.0.1\n::1\n", 1,
+        "mmdb: row 2: invalid input: cannot look up IPv6 address in IPv4-only database\nmmdb: 1 lines with a record, 0 without, 0 without an address, 1 with an error\n",
+    ),
     (
         &["enrich", "here.mmdb", "--header", "--field", ""], "ip\n::1\n200.0.0.1\n", 0,
         "mmdb: row 2: invalid input: cannot look up IPv6 address in IPv4-only database\nmmdb: 1 lines with a record, 0 without, 0 without an address, 1 with an error\n",
     ),
     (
         &["enrich", "here.mmdb", "--delimiter", ",", "--field", ""], "1.1.1.1,a\n1.1.1.1,\"b\n1.1.1.1,c", 0,
-        "mmdb: nothing closes a quote of row 2, by the end of the input or within 65536 bytes; see --no-quotes\nmmdb: 0 lines with a record, 2 without, 0 without an address, 0 with an error\n",
+        "mmdb: row 2: a quote is still open at the end of the input; see --no-quotes\nmmdb: 0 lines with a record, 2 without, 0 without an address, 0 with an error\n",
     ),
     (
         &["enrich", "here.mmdb", "--header", "--delimiter", ",", "--field", "", "--strict", "--quiet"], "a\n1.1.1.1,\"b", 1,
-        "mmdb: nothing closes a quote of row 2, by the end of the input or within 65536 bytes; see --no-quotes\n",
+        "mmdb: row 2: a quote is still open at the end of the input; see --no-quotes\n",
     ),
 ];
 
@@ -517,7 +593,7 @@ fn has_member(object: &str, written: &str) -> bool {
 
 // Whether a run added a member to an object that is seen whole, and else left it as it was.
 fn is_of_object(run: &Run, object: &str, message: &str) -> bool {
-    let is_written = if object.len() > 65_536 {
+    let is_written = if object.len() > 1_048_576 {
         run.out() == object
     } else {
         has_member(object, run.out())
@@ -529,13 +605,16 @@ fn is_of_object(run: &Run, object: &str, message: &str) -> bool {
 fn long_objects(rt: HostRuntime) {
     for (length, message) in [
         (65_536, "1 lines with"),
+        (65_537, "1 lines with"),
+        (140_000, "1 lines with"),
+        (1_048_576, "1 lines with"),
         (
-            65_537,
-            "0 without an address, 0 with an error, 1 not objects of JSON",
+            1_048_577,
+            "0 without an address, 0 with an error, 0 not objects of JSON, 1 too long, the first in row 1\n",
         ),
         (
-            140_000,
-            "0 without an address, 0 with an error, 1 not objects of JSON",
+            3_000_000,
+            "0 without an address, 0 with an error, 0 not objects of JSON, 1 too long, the first in row 1\n",
         ),
     ] {
         let text = object_of_length(rt.alloc(), length).expect(&rt, "a text");

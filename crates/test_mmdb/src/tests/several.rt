@@ -144,7 +144,12 @@ const VALUES: &[Row<'static>] = &[
     // what can't be read is an error, and no reason to ask the next
     (UNREADABLE, PLAIN, &["here.mmdb", "new.mmdb", "200.0.0.1", "--field", ""], 1, "", &["mmdb: here.mmdb: 200.0.0.1: invalid database at offset "]),
     (UNREADABLE, PLAIN, &["new.mmdb", "here.mmdb", "200.0.0.1", "--field", ""], 0, "\"x\"\n", &[]),
-    (CITY, UNREADABLE, &["here.mmdb", "new.mmdb", "200.0.0.1", "--field", "n", "--field", "p"], 1, "7\n", &["mmdb: new.mmdb: 200.0.0.1: decoding error at offset 0 (path: /p): "]),
+    (
+        UNREADABLE, CITY, &["here.mmdb", "new.mmdb", "200.0.0.1", "--field", "n", "--field", ""], 1, "7\n",
+        &["mmdb: here.mmdb: 200.0.0.1: invalid database at offset "],
+    ),
+    // a key of a text leads nowhere, whatever the text is
+    (CITY, UNREADABLE, &["here.mmdb", "new.mmdb", "200.0.0.1", "--field", "n", "--field", "p"], 6, "7\nnull\n", &["mmdb: no record has p\n"]),
     // a database of IPv4 has nothing of IPv6, unless all have not
     (CITY, LONG, &["here.mmdb", "new.mmdb", "ffff::1", "--field", ""], 0, "\"x\"\n", &[]),
     (CITY, ASN, &["here.mmdb", "new.mmdb", "::1", "--field", ""], 1, "", &["mmdb: here.mmdb: ::1: invalid input: cannot look up IPv6"]),

@@ -150,6 +150,11 @@ const LISTS: &[Row<'static>] = &[
         CITY, ASN, &["--where", "o=@-", "--format", "nft"], "z\n", 1, "",
         &["mmdb: o=@-: no network has 1 of the 1 values: z; --allow-empty writes an empty list\n"],
     ),
+    // a path of a file's values that no record has
+    (
+        CITY, ASN, &["--where", "oo.x=@-", "--format", "nft"], "z\n", 1, "",
+        &["mmdb: oo.x=@-: no network has 1 of the 1 values: z; --allow-empty writes an empty list\n", "mmdb: no record has oo.x"],
+    ),
     // no network is chosen, and a value that none has
     (CITY, ASN, &["--where", "c.i=DE", "--where", "o=x", "--format", "nft"], "", 1, "", &["no network is chosen"]),
     (CITY, ASN, &["--where", "c.i=DE", "--where", "o=x", "--format", "cidr"], "", 0, "", &[]),
@@ -171,7 +176,22 @@ const LISTS: &[Row<'static>] = &[
 const MIXED: &[Row<'static>] = &[
     // a database without IPv6 beside one with it
     (CITY, SIX, &["--where", "c.i=DE", "--format", "cidr"], "", 0, "64.0.0.0/2\n192.0.0.0/2\n", &[]),
-    (SIX, CITY, &["--where", "m=6", "--ipv4", "--format", "cidr"], "", 0, "64.0.0.0/2\n128.0.0.0/1\n", &[]),
+    // lookups of all IPv4 addresses find ::/1 in a database without a tree of IPv4
+    (SIX, CITY, &["--where", "m=6", "--ipv4", "--format", "cidr"], "", 0, "0.0.0.0/0\n", &[]),
+    // a range within ::ffff:0:0/96, of which none of the databases has networks, or one has some
+    (
+        CITY, ASN, &["::ffff:128.0.0.0/98", "--field", "o"], "", 0, "{\"network\":\"128.0.0.0/2\",\"o\":\"x\"}\n",
+        &["mmdb: ::ffff:128.0.0.0/98 is read as 128.0.0.0/2\n"],
+    ),
+    (
+        CITY, SIX, &["::ffff:128.0.0.0/98", "--field", "m"], "", 0, "{\"network\":\"::ffff:128.0.0.0/98\",\"m\":6}\n", &[],
+    ),
+    // a path of a condition that no record has
+    (CITY, ASN, &["--where", "c.j=DE"], "", 0, "", &["mmdb: no record has c.j; did you mean c.i?\n"]),
+    (
+        CITY, ASN, &["--where", "c.j=DE", "--format", "pf"], "", 1, "",
+        &["mmdb: no network has c.j=DE (did you mean c.i=DE?); --allow-empty writes an empty list\n"],
+    ),
     (CITY, SIX, &["8000::/1"], "", 0, "{\"network\":\"8000::/1\",\"City\":null,\"Six\":{\"m\":6}}\n", &[]),
     (
         CITY, SIX, &["128.0.0.0/2"], "", 0,
@@ -197,13 +217,14 @@ const MIXED: &[Row<'static>] = &[
     (
         ASN, BAD, &["--field", "o", "--field", "c"], "", 1,
         "{\"network\":\"0.0.0.0/3\",\"o\":\"x\",\"c\":null}\n{\"network\":\"64.0.0.0/2\",\"o\":\"y\",\"c\":null}\n",
-        &["mmdb: new.mmdb: 128.0.0.0/2: ", "mmdb: new.mmdb: 192.0.0.0/2: ", "mmdb: 2 networks could not be read\n"],
+        // once, as its own file has it, however many networks the others have there
+        &["mmdb: new.mmdb: 128.0.0.0/1: ", "mmdb: 1 networks could not be read\n"],
     ),
     (
-        BAD, ASN, &["128.0.0.0/2"], "", 1, "", &["mmdb: here.mmdb: 128.0.0.0/2: ", "mmdb: 1 networks could not be read\n"],
+        BAD, ASN, &["128.0.0.0/2"], "", 1, "", &["mmdb: here.mmdb: 128.0.0.0/1: ", "mmdb: 1 networks could not be read\n"],
     ),
     (
-        ASN, BAD, &["--where-has", "c", "--field", "o"], "", 1, "", &["mmdb: new.mmdb: 128.0.0.0/2: ", "mmdb: 2 networks could not be read\n"],
+        ASN, BAD, &["--where-has", "c", "--field", "o"], "", 1, "", &["mmdb: new.mmdb: 128.0.0.0/1: ", "mmdb: 1 networks could not be read\n"],
     ),
 ];
 

@@ -16,7 +16,7 @@ const LINES: &[Row] = &[
     (b"1.1.1.1", b"\t"),
     (b"no address", b"\t"),
     (b"201.0.0.1\tx", b"\ta\"b,c"),
-    (b"", b"\t"),
+    (b"", b""),
     (b"0001:0002:0003:0004:0005:0006:0007:0008", b"\t"),
     (b"255.255.255.255", b"\ta\"b,c"),
     (b"::ffff:255.255.255.255 and more bytes than an address has", b"\t"),

@@ -47,11 +47,24 @@ fn whole_record(alloc: Global) -> Vec<Vec<PathElement<'static>>> {
     paths
 }
 
-/// The filter with the record of the address in a column; whether it came to the end.
+/// The filter with the record of the address that is a cell of a column; whether it came to the end.
 pub(crate) fn enriched<I: Live, W: Write>(
     alloc: Global,
     reader: &Reader<&[u8]>,
     rows: Rows,
+    column: usize,
+    input: &mut I,
+    out: &mut W,
+) -> bool {
+    enriched_by(alloc, reader, rows, Reading::Exact, column, input, out)
+}
+
+// The same of an address that is read so.
+fn enriched_by<I: Live, W: Write>(
+    alloc: Global,
+    reader: &Reader<&[u8]>,
+    rows: Rows,
+    reading: Reading,
     column: usize,
     input: &mut I,
     out: &mut W,
@@ -63,8 +76,9 @@ pub(crate) fn enriched<I: Live, W: Write>(
         alloc,
         reader,
         rows,
-        reading: Reading::Exact,
+        reading,
         column,
+        breaks: None,
         paths: whole_record(alloc),
     };
     filter_rows(
@@ -141,6 +155,57 @@ fn addresses_at_the_end_of_what_is_seen(rt: HostRuntime) {
     let reader = Reader::from_source(rt.alloc(), bytes.as_slice()).expect(&rt, "a reader");
     for (case, row) in CUTS.iter().enumerate() {
         assert_at(&rt, is_cut(rt.alloc(), &reader, row), case);
+    }
+}
+
+/// Where the address is read, what rows are, what stands before 70,000 letters, and whether an address is seen there.
+type Front = (Reading, Rows, &'static [u8], usize, &'static [u8], bool);
+
+const TABS: Rows = Rows::Lines { delimiter: b'\t' };
+
+// So many blanks, then this text, in the first column of a row that goes on.
+#[rattlefmt::skip]
+const FRONTS: &[Front] = &[
+    (Reading::First, TABS, b" ", 0, b"200.0.0.1 - -", true),
+    (Reading::First, TABS, b" ", 9, b"\"200.0.0.1\";", true),
+    (Reading::First, TABS, b" ", 0, b"200.0.0.1", false),
+    (Reading::First, TABS, b" ", 0, b"x 200.0.0.1 ", false),
+    (Reading::First, CSV, b" ", 0, b"\"200.0.0.1 - -", true),
+    (Reading::First, CSV, b" ", 0, b"200.0.0.1 - -", true),
+    (Reading::First, CSV, b" ", 0, b"200.0.0.1", false),
+    (Reading::First, TABS, b" ", 65_526, b"200.0.0.1 ", true),
+    (Reading::First, TABS, b" ", 65_527, b"200.0.0.1 ", false),
+    (Reading::Exact, TABS, b" ", 0, b"200.0.0.1 ", false),
+    (Reading::Exact, TABS, b" ", 0, b"200.0.0.1\t", true),
+    (Reading::Last, TABS, b" ", 0, b"1.1.1.1, 200.0.0.1 ", false),
+    (Reading::Last, TABS, b" ", 0, b"1.1.1.1, 200.0.0.1\t", true),
+    (Reading::Anywhere, TABS, b" ", 0, b"from 200.0.0.1 ", true),
+    (Reading::LastAnywhere, TABS, b" ", 0, b"from 200.0.0.1 ", false),
+];
+
+// Whether an address at the front of a long row is seen or not.
+fn is_front(alloc: Global, reader: &Reader<&[u8]>, front: &Front) -> bool {
+    let (reading, rows, blank, blanks, text, is_seen) = front;
+    let added: &[u8] = match rows {
+        Rows::Csv { .. } if *is_seen => b",\"a\"\"b,c\"",
+        Rows::Csv { .. } => b",",
+        Rows::Lines { .. } if *is_seen => b"\ta\"b,c",
+        Rows::Lines { .. } => b"\t",
+    };
+    let row = [(*blank, *blanks), (*text, 1), (b"x".as_slice(), 70_000)];
+    let input = section_of(alloc, &row);
+    let want = section_of(alloc, &[row[0], row[1], row[2], (added, 1)]);
+    let (mut left, mut out) = (input.as_slice(), Vec::new(alloc));
+    let is_done = enriched_by(alloc, reader, *rows, *reading, 0, &mut left, &mut out);
+    is_done && out.as_slice() == want.as_slice()
+}
+
+#[test]
+fn addresses_at_the_front_of_long_rows(rt: HostRuntime) {
+    let bytes = file(rt.alloc());
+    let reader = Reader::from_source(rt.alloc(), bytes.as_slice()).expect(&rt, "a reader");
+    for (case, front) in FRONTS.iter().enumerate() {
+        assert_at(&rt, is_front(rt.alloc(), &reader, front), case);
     }
 }
 

@@ -1,6 +1,8 @@
 //! A filter that ends before a row, and goes on by another call.
+ghost use Rattle.std.specs.Prelude.{⊤};
+
 use super::streams::{Lengths, assert_holds};
-use mmdb_filter::{Counts, Filtered, Progress, Rows, filter_rows};
+use mmdb_filter::{Counts, Filtered, Outcome, Progress, Rows, filter_rows};
 use std::alloc::Global;
 use std::io;
 
@@ -9,6 +11,8 @@ use std::io;
 struct Once(bool);
 
 impl Progress for Once {
+    ghost ends = { λ _. ⊤ };
+
     fn passed(&mut self, _counts: Counts) -> bool {
         let goes_on = self.0;
         self.0 = true;
@@ -19,9 +23,9 @@ impl Progress for Once {
         true
     }
 
-    fn stays_quoted(&mut self, _rows: u64) {}
+    fn stays_quoted(&mut self, _rows: u64, _is_long: bool) {}
 
-    fn is_occupied(&mut self, _rows: u64) {}
+    fn is_named(&mut self, _rows: u64, _outcome: Outcome) {}
 }
 
 // The filter over what is left of some lines.

@@ -170,6 +170,7 @@ fn a_row_of_a_hundred_million_bytes(rt: HostRuntime) {
         absent: 0,
         unreadable: 0,
         malformed: 0,
+        too_long: 0,
         rejected: 1,
         occupied: 0,
     };

@@ -161,18 +161,22 @@ fn put_added(delimiter: u8, cell: &[u8], out: &mut Vec<u8>) {
     }
 }
 
-// What is written of rows that each end with a line feed alone, read byte by byte.
+// What is written of rows that each end with a line feed alone, read byte by byte. Nothing stands behind an empty one.
 fn read_plainly(alloc: Global, delimiter: u8, column: usize, input: &[u8]) -> Vec<u8> {
     let rows = Rows::Csv { delimiter };
     let mut out: Vec<u8> = Vec::new(alloc);
     let mut cell: Vec<u8> = Vec::new(alloc);
     let mut passed = 0usize;
+    let mut begun = 0usize;
     let mut position = RowPosition::Cell;
     for byte in input {
         let next = position.after(rows, *byte);
         if next == RowPosition::Ended {
-            put_added(delimiter, cell.as_slice(), &mut out);
+            if out.len() > begun {
+                put_added(delimiter, cell.as_slice(), &mut out);
+            }
             let _ = out.push(*byte);
+            begun = out.len();
             cell.clear();
             passed = 0;
             position = RowPosition::Cell;

@@ -1,7 +1,8 @@
 //! Inputs and outputs that a test makes.
 ghost use Rattle.std.specs.Prelude.{⊤};
+ghost use Rattle.mmdb_filter.specs.Lines.{most_seen};
 
-use mmdb_filter::{Added, Additions, Counts, Outcome, Progress, Rows, filter_rows};
+use mmdb_filter::{Added, Additions, Counts, MOST_SEEN, Outcome, Progress, Rows, filter_rows};
 use std::alloc::{AllocError, Global};
 use std::io::{self, BufReader, ErrorKind, Read, Write};
 use std::process::Abort;
@@ -90,9 +91,13 @@ pub(crate) struct Lengths;
 impl Additions for Lengths {
     type Memory = ();
 
-    ghost adds = { λ _ _ _ _ _ _. ⊤ };
+    ghost adds = { λ _. record { most = most_seen; adds = λ _ _ _ _ _. ⊤ } };
 
     ghost fits = { λ _ _. ⊤ };
+
+    fn most_seen(&self) -> usize {
+        MOST_SEEN
+    }
 
     fn add(
         &self,
@@ -128,9 +133,13 @@ pub(crate) struct Marks(pub(crate) usize);
 impl Additions for Marks {
     type Memory = ();
 
-    ghost adds = { λ _ _ _ _ _ _. ⊤ };
+    ghost adds = { λ _. record { most = most_seen; adds = λ _ _ _ _ _. ⊤ } };
 
     ghost fits = { λ _ _. ⊤ };
+
+    fn most_seen(&self) -> usize {
+        MOST_SEEN
+    }
 
     fn add(
         &self,
@@ -160,6 +169,8 @@ impl Additions for Marks {
 pub(crate) struct Seen(pub(crate) u64);
 
 impl Progress for Seen {
+    ghost ends = { λ _. ⊤ };
+
     fn passed(&mut self, counts: Counts) -> bool {
         self.0 = counts.total().unwrap_or(0);
         true
@@ -169,9 +180,9 @@ impl Progress for Seen {
         true
     }
 
-    fn stays_quoted(&mut self, _rows: u64) {}
+    fn stays_quoted(&mut self, _rows: u64, _is_long: bool) {}
 
-    fn is_occupied(&mut self, _rows: u64) {}
+    fn is_named(&mut self, _rows: u64, _outcome: Outcome) {}
 }
 
 /// The filter over an input in pieces of one size.

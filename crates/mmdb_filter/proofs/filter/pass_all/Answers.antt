@@ -44,6 +44,9 @@ returns-in-Some-clause-end g c =
     λ is_end. end_too c.args.rows (g.A.Additions.adds c.args.additions.now) (g.R.Read.remaining c.args.input.now) (g.R.Read.remaining c.loop.input) (g.W.Write.contents c.args.out.now) (g.W.Write.contents c.loop.out) c.loop.batch.ready.items c.args.batch.now.counts c.loop.batch.counts _ c.loop.invariant.way
     (c.in_ok-is_end.ensures.end (c.in-Some.is ∙ ap Some is_end))
 
+pub returns-in-Some-clause-asked : goal.returns-in-Some-clause-asked
+returns-in-Some-clause-asked g c = λ is_end. c.in_ok-is_end.ensures.asked (c.in-Some.is ∙ ap Some is_end)
+
 pub returns-in_err-pass_at_hand-clause-begun : goal.returns-in_err-pass_at_hand-clause-begun
 returns-in_err-pass_at_hand-clause-begun g c =
     let rows = c.args.rows in

@@ -4,7 +4,7 @@ use Rattle.mmdb_filter.specs.Lines.{row_with, AppendsFront}
 use Rattle.mmdb_filter.specs.declared.rows.RowPosition.TheVariants as spec_position
 use Rattle.mmdb_filter.proofs.FrontLaws.{on_any_err, front_whole, appends_kept}
 use Rattle.mmdb_filter.proofs.PassLaws.{passes_chunk, passed, stopped, stopped_in, at_end_too}
-use Rattle.mmdb_filter.proofs.pass.pass_chunks.Goals.{then-eq-via-then-eq, then-eq-via-else-eq+then-len-lt-CHUNK}
+use Rattle.mmdb_filter.proofs.pass.pass_chunks.Goals.{then-eq-via-then-eq, then-eq-via-else-eq+then-len-held}
 use Rattle.mmdb_filter.proofs.pass.pass_chunks.Goals as goal
 
 pub returns-then-eq-clause-whole : goal.returns-then-eq-clause-whole
@@ -12,7 +12,7 @@ returns-then-eq-clause-whole g c = λ ready.
     let ending : c.loop.now ≢ spec_position.Ended → OnSome (g.R.Read.remaining c.args.input.now) (IsAtEnd (g.R.Read.remaining c.loop.input)) =
     elim c.then-eq.branch [
       | then-eq-via-then-eq w ↦ λ not. absurd (not (search rules))
-      | then-eq-via-else-eq+then-len-lt-CHUNK w ↦ λ not. c.loop.invariant.ready ready not (search rules)
+      | then-eq-via-else-eq+then-len-held w ↦ λ not. c.loop.invariant.ready ready not (search rules)
     ] in
     let last : c.append_row.new.ready.items ≡ row_with c.loop.chunk.items c.args.added.now c.args.behind =
     c.in_ok-append_row.ensures.whole ∙ ap (λ r. r ++ row_with c.as_slice-then-eq.result.now c.args.added.now c.args.behind) c.loop.invariant.empty ∙ ap (λ r. row_with r c.args.added.now c.args.behind) c.as_slice-then-eq.ensures.value in

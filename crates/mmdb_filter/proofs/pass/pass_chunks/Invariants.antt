@@ -8,6 +8,6 @@ abbrev pub invariant-loop : goal.invariant-loop
 invariant-loop g l = record {
   way : Passing l.rows l.fn.position l.fn.chunk.items l.fn.behind (g.R.Read.remaining l.fn.input) (g.W.Write.contents l.fn.out) l.now l.chunk.items (g.R.Read.remaining l.input) (g.W.Write.contents l.out);
   empty : l.ready.items ≡ [];
-  none : 65539 ≤ length l.chunk.items → l.fn.behind ≡ 0;
-  ready : (l.fn.position ≢ spec_position.Ended → length l.fn.chunk.items < 65539 → IsAtEnd (g.R.Read.remaining l.fn.input)) → l.now ≢ spec_position.Ended → length l.chunk.items < 65539 → OnSome (g.R.Read.remaining l.fn.input) (IsAtEnd (g.R.Read.remaining l.input));
+  none : l.held ≤ length l.chunk.items → l.fn.behind ≡ 0;
+  ready : (l.fn.position ≢ spec_position.Ended → length l.fn.chunk.items < l.held → IsAtEnd (g.R.Read.remaining l.fn.input)) → l.now ≢ spec_position.Ended → length l.chunk.items < l.held → OnSome (g.R.Read.remaining l.fn.input) (IsAtEnd (g.R.Read.remaining l.input));
 }

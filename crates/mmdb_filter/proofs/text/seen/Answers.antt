@@ -5,8 +5,8 @@ use Rattle.mmdb_filter.proofs.text.seen.Goals as goal
 
 pub returns-clause-text : goal.returns-clause-text
 returns-clause-text c =
-    let least : c.min-most.result ≡ min (text_length c.args.row.now) 65536 = omega (arith, c.requires.text) in
-    seen_cut c.args.row.now c.min-most.result least
+    let least : c.min-front.result ≡ min (text_length c.args.row.now) c.args.most = omega (arith, c.requires.text) in
+    seen_cut c.args.most c.args.row.now c.min-front.result least
 
 pub returns-clause-long : goal.returns-clause-long
-returns-clause-long c = ap (λ n. nat_lt 65536 n) c.requires.text ∙ long_is c.args.row.now
+returns-clause-long c = ap (λ n. nat_lt c.args.most n) c.requires.text ∙ long_is c.args.most c.args.row.now

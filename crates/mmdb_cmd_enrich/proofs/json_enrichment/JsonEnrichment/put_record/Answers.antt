@@ -3,7 +3,7 @@ use Rattle.std.proofs.lemmas.Result.{IfOk-weaker}
 use Rattle.mmdb_layout.specs.Reading.{reads_in, reads_found}
 use Rattle.mmdb_reader.specs.File.{data_section}
 use Rattle.mmdb_reader.specs.Found.{database_asked, offset_found}
-use Rattle.mmdb_cmd_enrich.specs.Fields.{IsMember, HasUnreadField}
+use Rattle.mmdb_cmd_enrich.specs.Fields.{IsMember, IsUnread}
 use Rattle.mmdb_cmd_enrich.specs.Wanted.{member}
 use Rattle.mmdb_cmd_enrich.specs.declared.members.NamedField.{NamedField}
 use Rattle.mmdb_cmd_enrich.proofs.MemberLaws.{member_kept, reads_same}
@@ -18,7 +18,7 @@ returns-clause-added g c =
     let addition = c.in_ok-member.member in
     let kept = c.kept_of-kept.result in
     let some = subst (λ (fs : List NamedField). IfSome addition (λ text. IsMember reads name fs text.items)) c.as_slice-fields.ensures.value c.in_ok-member.ensures.some in
-    let none = subst (λ (fs : List NamedField). IfNone addition (HasUnreadField reads fs)) c.as_slice-fields.ensures.value c.in_ok-member.ensures.none in
+    let none = subst (λ (fs : List NamedField). IfNone addition (IsUnread reads fs)) c.as_slice-fields.ensures.value c.in_ok-member.ensures.none in
     let same = reads_same db (database_asked c.args.found.now) (offset_found c.args.found.now) c.args.offset c.requires.asked c.requires.at in
     let is = member_kept [] reads (reads_in (data_section db) (Some c.args.offset)) name fields addition kept.cells.now kept.outcome same some none c.kept_of-kept.ensures in
     IfOk-weaker c.put_member.result _ _
@@ -34,6 +34,6 @@ returns-clause-kept g c =
     let addition = c.in_ok-member.member in
     let kept = c.kept_of-kept.result in
     let some = subst (λ (fs : List NamedField). IfSome addition (λ text. IsMember reads name fs text.items)) c.as_slice-fields.ensures.value c.in_ok-member.ensures.some in
-    let none = subst (λ (fs : List NamedField). IfNone addition (HasUnreadField reads fs)) c.as_slice-fields.ensures.value c.in_ok-member.ensures.none in
+    let none = subst (λ (fs : List NamedField). IfNone addition (IsUnread reads fs)) c.as_slice-fields.ensures.value c.in_ok-member.ensures.none in
     let same = reads_same db (database_asked c.args.found.now) (offset_found c.args.found.now) c.args.offset c.requires.asked c.requires.at in
     c.keep.ensures (member db name fields) c.requires.kept (member_kept [] reads (reads_in (data_section db) (Some c.args.offset)) name fields addition kept.cells.now kept.outcome same some none c.kept_of-kept.ensures)

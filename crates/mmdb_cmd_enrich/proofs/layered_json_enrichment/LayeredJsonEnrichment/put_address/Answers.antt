@@ -14,5 +14,5 @@ returns-clause-added g c =
     let any : CanAskAny dbs address = search rules in
     let are : AreAnswers dbs address answers = search rules in
     IfOk-weaker c.put_found.result _ _
-    (λ addition puts. all_put dbs self.network self.nulls self.name.now self.fields.items c.args.line.now address answers addition c.args.out.now.items c.put_found.new.out.items any are puts)
+    (λ addition puts. all_put dbs self.kind self.nulls self.name.now self.fields.items c.args.line.now address answers addition c.args.out.now.items c.put_found.new.out.items any are puts)
     c.put_found.ensures.added

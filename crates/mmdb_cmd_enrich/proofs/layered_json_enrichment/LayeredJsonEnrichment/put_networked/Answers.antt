@@ -1,7 +1,7 @@
 use Rattle.std.proofs.Common.{List, IfSome, IfNone, map, refl, ap, subst}
 use Rattle.std.proofs.lemmas.Result.{IfOk-weaker}
 use Rattle.mmdb_layout.specs.Reading.{first_read_of}
-use Rattle.mmdb_cmd_enrich.specs.Fields.{IsMemberAfter, HasUnreadField, network_tokens}
+use Rattle.mmdb_cmd_enrich.specs.Fields.{IsMemberAfter, IsUnread, network_tokens}
 use Rattle.mmdb_cmd_enrich.specs.KeptReads.{paths_in}
 use Rattle.mmdb_cmd_enrich.specs.Layers.{first_read}
 use Rattle.mmdb_cmd_enrich.specs.Working.{offset_in}
@@ -28,7 +28,7 @@ returns-clause-added g c =
     let addition = c.in_ok-member.member in
     let made = c.kept_of-made.result in
     let some = subst (λ (fs : List NamedField). IfSome addition (λ text. IsMemberAfter front reads name fs text.items)) c.as_slice-fields.ensures.value c.in_ok-member.ensures.some in
-    let none = subst (λ (fs : List NamedField). IfNone addition (HasUnreadField reads fs)) c.as_slice-fields.ensures.value c.in_ok-member.ensures.none in
+    let none = subst (λ (fs : List NamedField). IfNone addition (IsUnread reads fs)) c.as_slice-fields.ensures.value c.in_ok-member.ensures.none in
     let is = member_kept front reads (first_read dbs (map offset_in answers)) name fields addition made.cells.now made.outcome (answers_same dbs answers c.requires.asked) some none c.kept_of-made.ensures in
     IfOk-weaker c.put_member.result _ _
     (λ addition puts. (network, c.shown_network-network.ensures, (made.cells.now, made.outcome, is, puts)))

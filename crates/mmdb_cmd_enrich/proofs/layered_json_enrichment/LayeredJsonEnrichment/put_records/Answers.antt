@@ -1,7 +1,7 @@
 use Rattle.std.proofs.Common.{List, [], IfSome, IfNone, map, refl, ap, subst}
 use Rattle.std.proofs.lemmas.Result.{IfOk-weaker}
 use Rattle.mmdb_layout.specs.Reading.{first_read_of}
-use Rattle.mmdb_cmd_enrich.specs.Fields.{IsMember, HasUnreadField}
+use Rattle.mmdb_cmd_enrich.specs.Fields.{IsMember, IsUnread}
 use Rattle.mmdb_cmd_enrich.specs.KeptReads.{paths_in}
 use Rattle.mmdb_cmd_enrich.specs.Layers.{first_read}
 use Rattle.mmdb_cmd_enrich.specs.Wanted.{layered_member}
@@ -27,7 +27,7 @@ returns-clause-added g c =
     let addition = c.in_ok-member.member in
     let kept = c.kept_of-kept.result in
     let some = subst (λ (fs : List NamedField). IfSome addition (λ text. IsMember reads name fs text.items)) c.as_slice-fields.ensures.value c.in_ok-member.ensures.some in
-    let none = subst (λ (fs : List NamedField). IfNone addition (HasUnreadField reads fs)) c.as_slice-fields.ensures.value c.in_ok-member.ensures.none in
+    let none = subst (λ (fs : List NamedField). IfNone addition (IsUnread reads fs)) c.as_slice-fields.ensures.value c.in_ok-member.ensures.none in
     let is = member_kept [] reads (first_read dbs (map offset_in answers)) name fields addition kept.cells.now kept.outcome (answers_same dbs answers c.requires.asked) some none c.kept_of-kept.ensures in
     IfOk-weaker c.put_member.result _ _
     (λ addition puts. (kept.cells.now, kept.outcome, is, puts))
@@ -43,7 +43,7 @@ returns-clause-kept g c =
     let addition = c.in_ok-member.member in
     let kept = c.kept_of-kept.result in
     let some = subst (λ (fs : List NamedField). IfSome addition (λ text. IsMember reads name fs text.items)) c.as_slice-fields.ensures.value c.in_ok-member.ensures.some in
-    let none = subst (λ (fs : List NamedField). IfNone addition (HasUnreadField reads fs)) c.as_slice-fields.ensures.value c.in_ok-member.ensures.none in
+    let none = subst (λ (fs : List NamedField). IfNone addition (IsUnread reads fs)) c.as_slice-fields.ensures.value c.in_ok-member.ensures.none in
     let is = member_kept [] reads (first_read dbs (map offset_in answers)) name fields addition kept.cells.now kept.outcome (answers_same dbs answers c.requires.asked) some none c.kept_of-kept.ensures in
     c.keep_numbered.ensures (layered_member dbs name fields) c.requires.kept
     (member_of_keys dbs name fields (map offset_in answers) c.args.layers.now.key kept.cells.now kept.outcome c.requires.key is)

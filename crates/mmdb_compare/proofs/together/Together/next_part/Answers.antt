@@ -1,4 +1,4 @@
-use Rattle.std.proofs.Common.{◌≡◌, ◌&&◌, true, false, Option, Some, ℕ, subst, sym, ◌∙◌}
+use Rattle.std.proofs.Common.{◌≡◌, ◌&&◌, true, false, Option, Some, ℕ, ap, subst, sym, ◌∙◌}
 use Rattle.mmdb_compare.specs.Together.{Abreast, IsNextBlock, IsNextUnreadOf}
 use Rattle.mmdb_compare.specs.WalkList.{abreast, AreReached}
 use Rattle.mmdb_compare.proofs.TogetherLaws.{all_start, all_gone, all_passed, all_stretch, all_unread}
@@ -17,12 +17,12 @@ loop-self-preserved g c =
     let at = c.in-Some.at in
     let here = c.at-here.result in
     let reached : AreReached before (abreast (Some at) l.shown_at walks) = subst (λ (x : Option ℕ). AreReached before (abreast x l.shown_at walks)) c.in-Some.is c.loop-self.invariant in
-    let on : AreReached before (abreast (Some at) l.shown_at gone) = all_gone before at l.shown_at walks gone reached c.in_default-go_to.ensures in
+    let on : AreReached before (abreast (Some at) l.shown_at gone) = all_gone before at l.shown_at walks gone reached c.in_default-go_to.ensures.step c.in_default-go_to.ensures.databases in
     let hidden : (here.is_known && here.has_record) ≡ false = sym c.is_shown.ensures ∙ c.if-is_shown.false in
     all_passed before at l.shown_at c.next_to-self-inside.result gone here on c.at-here.ensures hidden c.next_to-self-inside.ensures
 
-pub returns-in-Some-go_to : goal.returns-in-Some-go_to
-returns-in-Some-go_to g c =
+pub returns-in-Some-go_to-clause-next : goal.returns-in-Some-go_to-clause-next
+returns-in-Some-go_to-clause-next g c =
     let i = c.self.inside in
     let l = c.loop-self.self-inside in
     let walks = l.list.walks.items in
@@ -31,12 +31,12 @@ returns-in-Some-go_to g c =
     let at = c.in-Some.at in
     let place = c.in-Some-go_to.place in
     let reached : AreReached before (abreast (Some at) l.shown_at walks) = subst (λ (x : Option ℕ). AreReached before (abreast x l.shown_at walks)) c.in-Some.is c.loop-self.invariant in
-    let met : IsNextUnreadOf before (abreast (Some at) l.shown_at gone) place = all_unread before at l.shown_at place walks gone reached c.in-Some-go_to.ensures in
+    let met : IsNextUnreadOf before (abreast (Some at) l.shown_at gone) place = all_unread before at l.shown_at place walks gone reached c.in-Some-go_to.ensures.step in
     let stands : IsNextUnreadOf before (abreast l.at l.shown_at gone) place = subst (λ (x : Option ℕ). IsNextUnreadOf before (abreast x l.shown_at gone) place) (sym c.in-Some.is) met in
     subst (λ (x : Abreast). IsNextUnreadOf x (abreast l.at l.shown_at gone) place) c.self.view_is stands
 
-pub returns-then-is_shown : goal.returns-then-is_shown
-returns-then-is_shown g c =
+pub returns-then-is_shown-clause-next : goal.returns-then-is_shown-clause-next
+returns-then-is_shown-clause-next g c =
     let i = c.self.inside in
     let l = c.loop-self.self-inside in
     let walks = l.list.walks.items in
@@ -47,8 +47,14 @@ returns-then-is_shown g c =
     let next = c.behind-self-inside.result in
     let block = c.largest-block.result in
     let reached : AreReached before (abreast (Some at) l.shown_at walks) = subst (λ (x : Option ℕ). AreReached before (abreast x l.shown_at walks)) c.in-Some.is c.loop-self.invariant in
-    let on : AreReached before (abreast (Some at) l.shown_at gone) = all_gone before at l.shown_at walks gone reached c.in_default-go_to.ensures in
+    let on : AreReached before (abreast (Some at) l.shown_at gone) = all_gone before at l.shown_at walks gone reached c.in_default-go_to.ensures.step c.in_default-go_to.ensures.databases in
     let shown : (here.is_known && here.has_record) ≡ true = sym c.is_shown.ensures ∙ c.if-is_shown.true in
     let b = c.largest-block.ensures in
-    let met : IsNextBlock before (abreast next at gone) block = all_stretch before at l.shown_at next gone here block on c.in_default-go_to.ensures.stand c.at-here.ensures shown b.block b.first b.within c.behind-self-inside.ensures in
+    let met : IsNextBlock before (abreast next at gone) block = all_stretch before at l.shown_at next gone here block on c.in_default-go_to.ensures.step.stand c.at-here.ensures shown b.block b.first b.within c.behind-self-inside.ensures in
     subst (λ (x : Abreast). IsNextBlock x (abreast next at gone) block) c.self.view_is met
+
+pub returns-in-Some-go_to-clause-databases : goal.returns-in-Some-go_to-clause-databases
+returns-in-Some-go_to-clause-databases g c = c.go_to.ensures.databases ∙ c.loop-self.invariant.databases ∙ ap (λ (x : Abreast). x.databases) c.self.view_is
+
+pub returns-then-is_shown-clause-databases : goal.returns-then-is_shown-clause-databases
+returns-then-is_shown-clause-databases g c = c.go_to.ensures.databases ∙ c.loop-self.invariant.databases ∙ ap (λ (x : Abreast). x.databases) c.self.view_is

@@ -7,8 +7,8 @@ use Rattle.mmdb_compare.specs.Walks.{Standing}
 use Rattle.mmdb_compare.proofs.ListedLaws.{found_block, next_network, next_leaf}
 use Rattle.mmdb_compare.proofs.walk.Walk.advance.Goals as goal
 
-pub returns-in-Some-Ok : goal.returns-in-Some-Ok
-returns-in-Some-Ok g c =
+pub returns-in-Some-Ok-clause-step : goal.returns-in-Some-Ok-clause-step
+returns-in-Some-Ok-clause-step g c =
     let steps = c.in-Some-Ok.ensures.steps in
     let n = c.numbered_network-network.ensures in
     let i = c.self.inside in
@@ -22,8 +22,8 @@ returns-in-Some-Ok g c =
       stands = tt;
     }
 
-pub returns-in-Some-Err : goal.returns-in-Some-Err
-returns-in-Some-Err g c =
+pub returns-in-Some-Err-clause-step : goal.returns-in-Some-Err-clause-step
+returns-in-Some-Err-clause-step g c =
     let steps = c.in-Some-Err.ensures.steps in
     let i = c.self.inside in
     let range : Block = record { first = i.range_first; prefix = i.range_prefix } in

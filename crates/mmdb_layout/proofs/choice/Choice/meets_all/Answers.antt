@@ -1,6 +1,6 @@
 use Rattle.std.proofs.Common.{◌≡◌, ◌+◌, ◌∷◌, drop, sym, ap, ◌∙◌, arith}
 use Rattle.std.proofs.lemmas.List.{drop_more}
-use Rattle.mmdb_layout.specs.Reading.{reads_found}
+use Rattle.mmdb_layout.specs.Reading.{outlines_found}
 use Rattle.mmdb_layout.proofs.ConditionLaws.{not_met}
 use Rattle.mmdb_layout.proofs.choice.Choice.meets_all.Goals as goal
 
@@ -9,4 +9,4 @@ returns-then-not-branch-clause-met g c =
     let conditions = c.args.self.now.conditions.now in
     let i = c.loop-condition.condition-index in
     let here : drop i conditions ≡ c.condition-item.result ∷ drop (i + 1) conditions = drop_more conditions i c.condition-item.result (omega arith) ∙ ap (λ y. y ∷ drop (i + 1) conditions) (sym c.condition-item.is) in
-    not_met conditions (drop i conditions) (drop (i + 1) conditions) c.condition-item.result (reads_found c.args.found.now) c.in_ok-holds.field-0 c.loop-condition.invariant here c.in_ok-holds.ensures.met c.if-not-branch.true
+    not_met conditions (drop i conditions) (drop (i + 1) conditions) c.condition-item.result (outlines_found c.args.found.now) c.in_ok-holds.field-0 c.loop-condition.invariant here c.in_ok-holds.ensures.met c.if-not-branch.true

@@ -1,5 +1,5 @@
 //! What paths into small records find, and how they fail.
-use super::vectors::{RECORD, Wanted, file_of, reported_at};
+use super::vectors::{RECORD, Wanted, file_of, is_other_met, reported_at};
 use maxminddb::PathElement::{Index, IndexFromEnd, Key};
 use maxminddb::{LookupResult, PathElement, Reader, Value, path};
 use mmdb_vectors::base::{high, low};
@@ -122,6 +122,22 @@ fn paths(rt: HostRuntime) -> Result<(), Failures> {
             &(*data, *path),
             reported_at(alloc, data, path, *wanted),
             text,
+        );
+    }
+    failures.verdict()
+}
+
+/// What the error says of a path that meets a value of another type.
+const OTHER_TYPE: &[&str] = &["): expected map for ", "): expected array for "];
+
+#[test]
+fn values_of_another_type(rt: HostRuntime) -> Result<(), Failures> {
+    let (alloc, mut failures) = (rt.alloc(), Failures::new(rt.alloc()));
+    for (data, path, _, text) in ROWS {
+        let wanted = OTHER_TYPE.iter().any(|words| text.contains(*words));
+        failures.expect(
+            &(*data, *path),
+            is_other_met(alloc, data, path) == Some(wanted),
         );
     }
     failures.verdict()

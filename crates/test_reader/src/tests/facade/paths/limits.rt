@@ -1,5 +1,5 @@
 //! Paths at the limits of values and bytes.
-use super::vectors::{Wanted, reported_at};
+use super::vectors::{Wanted, is_other_met, reported_at};
 use maxminddb::PathElement;
 use maxminddb::PathElement::{Index, Key};
 use mmdb_vectors::failures::Failures;
@@ -79,6 +79,11 @@ fn values_on_the_way_and_at_its_end(rt: HostRuntime) -> Result<(), Failures> {
         let data = section_of(alloc, &[(*head, 1), (b"\x00\x07", *count)]);
         let reported = reported_at(alloc, data.as_slice(), path, *wanted);
         failures.expect_text(&(*head, *path), reported, text);
+        let is_met = is_other_met(alloc, data.as_slice(), path);
+        failures.expect(
+            &(*head, *path),
+            is_met == Some(text.contains("): expected map for ")),
+        );
     }
     failures.verdict()
 }

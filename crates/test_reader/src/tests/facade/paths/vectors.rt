@@ -79,3 +79,11 @@ pub fn reported_at(
         wanted,
     )
 }
+
+/// Whether a path into these data meets a value of another type; none where that was not answered.
+pub fn is_other_met(alloc: Global, data: &[u8], path: &[PathElement<'_>]) -> Option<bool> {
+    let file = file_of(alloc, data);
+    let reader = Reader::from_source(alloc, file.as_slice()).ok()?;
+    let found = reader.lookup(high()).ok()?;
+    Some(found.meets_other_type(path))
+}

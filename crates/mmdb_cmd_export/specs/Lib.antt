@@ -1,0 +1,3 @@
+-- What has to be believed: what contracts name.
+pub mod Gathered
+pub mod Chosen

@@ -1,0 +1,9 @@
+mod NetworkLaws
+mod OutlineLaws
+mod ReadingLaws
+mod WalkLaws
+mod KeyLaws
+mod KeptLaws
+mod TakeLaws
+mod SetLaws
+mod AnsweredLaws

@@ -1,0 +1,152 @@
+-- What was taken and written of the items that came.
+use Rattle.std.proofs.Common.{◌≡◌, ◌⊎◌, inl, inr, ℕ, ◌+◌, List, [], ◌∷◌, ◌++◌, Option, Some, None, Bool, true, false, Result, Ok, Err, IfOk, refl, sym, ap, ◌∙◌, subst, append_assoc, append-nil, arith}
+use Rattle.std.specs.Io.KnownBytes.{Appends, Keeps}
+use Rattle.std.proofs.KnownBytes.{Appends-nil, Appends-trans}
+use Rattle.mmdb_format.specs.Error.{MemoryApart}
+use Rattle.mmdb_format.specs.declared.error.MaxMindDbError.{MaxMindDbError}
+use Rattle.mmdb_format.specs.declared.error.MaxMindDbError.TheVariants.{Memory, InvalidDatabase, Io, Decoding, ResourceLimit, InvalidNetwork, InvalidInput}
+use Rattle.mmdb_query.specs.Had.{Had}
+use Rattle.mmdb_query.specs.Walks.{Item, Goes, IsStep}
+use Rattle.mmdb_query.specs.Walks.Item.{Found, Unread}
+use Rattle.mmdb_query.specs.Taking.{Asked, CantBePut, IsPicked, ArePicked, Runs, Takes, IsDone}
+use Rattle.mmdb_query.specs.Steps.{is_memory, TakesChosen, TakesItem, TakesStep, FitsOf, UnderWay}
+use Rattle.mmdb_query.proofs.WalkLaws.{goes_none, goes_on}
+
+-- ---- known output
+
+pub kept_nil : (before after : Option (List ℕ)) → Keeps before after → Appends before after []
+kept_nil None after kept = tt
+kept_nil (Some xs) None kept = absurd kept
+kept_nil (Some xs) (Some ys) kept = kept ∙ sym (append-nil xs)
+
+-- nothing, and then nothing
+pub nothing_more : (before one after : Option (List ℕ)) → Appends before one [] → Appends one after [] → Appends before after []
+nothing_more before one after p q = Appends-trans before one after [] [] p q
+
+-- what holds unless memory is out
+pub unless_memory : {P : Type 0} (e : MaxMindDbError) → is_memory e ≡ false → MemoryApart e P → P
+unless_memory Memory is p = cc
+unless_memory (InvalidDatabase message offset) is p = p
+unless_memory (Io e) is p = p
+unless_memory (Decoding message offset path) is p = p
+unless_memory (ResourceLimit message offset path) is p = p
+unless_memory (InvalidNetwork e) is p = p
+unless_memory (InvalidInput message) is p = p
+
+-- ---- networks, one after another
+
+module _ {X : Type 0} (puts : Had → X → List ℕ → X → Type 0) where
+  runs_both : (some others : List Had) (old one new : X) (text more : List ℕ) → Runs puts some old text one → Runs puts others one more new → Runs puts (some ++ others) old (text ++ more) new
+  runs_both [] others old one new text more (same, none) rest =
+      subst (λ t. Runs puts others old (t ++ more) new) (sym none) (subst (λ x. Runs puts others x more new) same rest)
+  runs_both (had ∷ some) others old one new text more (next, first, rest, put, left, is) after =
+      (next, first, rest ++ more, put, runs_both some others next one new rest more left after, ap (λ t. t ++ more) is ∙ append_assoc first rest more)
+
+  runs_one : (had : Had) (old new : X) (text : List ℕ) → puts had old text new → Runs puts (had ∷ []) old text new
+  runs_one had old new text put = (new, text, [], put, (refl, refl), sym (append-nil text))
+
+picked_both : {X : Type 0} (a : Asked X) (some others : List Item) (put more : List Had) (m n : ℕ) → ArePicked a some put m → ArePicked a others more n → ArePicked a (some ++ others) (put ++ more) (m + n)
+picked_both a [] others put more m n (none, zero) rest =
+    let same : n ≡ m + n = omega (arith, zero) in
+    subst (λ k. ArePicked a others (put ++ more) k) same (subst (λ t. ArePicked a others t n) (ap (λ t. t ++ more) (sym none)) rest)
+picked_both a (item ∷ some) others put more m n (first, after, fault, faults, one, left, is, sum) rest =
+    (first, after ++ more, fault, faults + n, one, picked_both a some others after more faults n left rest, ap (λ t. t ++ more) is ∙ append_assoc first after more, omega (arith, sum))
+
+picked_one : {X : Type 0} (a : Asked X) (item : Item) (put : List Had) (fault : ℕ) → IsPicked a item put fault → ArePicked a (item ∷ []) put fault
+picked_one a item put fault one = (put, [], fault, 0, one, (refl, refl), sym (append-nil put), omega arith)
+
+-- ---- the loop
+
+module _ {W X : Type 0} (comes : W → List Item → Type 0) (a : Asked X) where
+  pub started : (first : W) (old : X) (before : Option (List ℕ)) → UnderWay comes a first first old old before before 0
+  started first old before = record { done = []; put = []; text = []; came = goes_none comes first; picked = (refl, refl); ran = (refl, refl); written = Appends-nil before }
+
+  item_taken : (first now next : W) (old one new : X) (before at after : Option (List ℕ)) (faults added : ℕ) (item : Item)
+      → UnderWay comes a first now old one before at faults → Goes comes now (item ∷ []) next → TakesItem a item added one new at after
+      → UnderWay comes a first next old new before after (faults + added)
+  item_taken first now next old one new before at after faults added item way goes takes = record {
+    done = way.done ++ item ∷ [];
+    put = way.put ++ takes.put;
+    text = way.text ++ takes.text;
+    came = goes_on comes first now next way.done (item ∷ []) way.came goes;
+    picked = picked_both a way.done (item ∷ []) way.put takes.put faults added way.picked (picked_one a item takes.put added takes.picked);
+    ran = runs_both a.puts way.put takes.put old one new way.text takes.text way.ran takes.ran;
+    written = Appends-trans before at after way.text takes.text way.written takes.written;
+  }
+
+  unread_taken : (first now next : W) (old one new : X) (before at after : Option (List ℕ)) (faults added : ℕ)
+      → UnderWay comes a first now old one before at faults → Goes comes now (Unread ∷ []) next → added ≡ 1 → new ≡ one → Appends at after []
+      → UnderWay comes a first next old new before after (faults + added)
+  unread_taken first now next old one new before at after faults added way goes is same written =
+      item_taken first now next old one new before at after faults added Unread way goes
+      (record { put = []; text = []; picked = (refl, is); ran = (same, refl); written = written })
+
+  pub ended : (first now : W) (old new : X) (before after : Option (List ℕ)) (faults : ℕ) → UnderWay comes a first now old new before after faults → comes now []
+      → Takes (comes first) a old new before after faults
+  ended first now old new before after faults way over = record {
+    items = way.done;
+    put = way.put;
+    text = way.text;
+    come = subst (comes first) (append-nil way.done) (way.came [] over);
+    picked = way.picked;
+    ran = way.ran;
+    written = way.written;
+  }
+
+-- one step of a walk, of which the answers are of these data sections
+pub step_taken : {W A X : Type 0} (comes : W → List Item → Type 0) (of : List (List ℕ) → Asked X) (s : List (List ℕ)) (sections : A → List (List ℕ)) (had : A → Had) (item : Result A MaxMindDbError)
+    (first now next : W) (old one new : X) (before at after : Option (List ℕ)) (faults added : ℕ)
+    → UnderWay comes (of s) first now old one before at faults → IsStep comes had now (Some item) next → IfOk item (λ answer. sections answer ≡ s)
+    → TakesStep of sections had item added one new at after → UnderWay comes (of s) first next old new before after (faults + added)
+step_taken comes of s sections had (Ok answer) first now next old one new before at after faults added way step same takes =
+    item_taken comes (of s) first now next old one new before at after faults added (Found (had answer)) way step (subst (λ t. TakesItem (of t) (Found (had answer)) added one new at after) same takes)
+step_taken comes of s sections had (Err e) first now next old one new before at after faults added way step same (is, once, kept, written) =
+    unread_taken comes (of s) first now next old one new before at after faults added way (unless_memory e is step) once kept written
+
+pub fits_on : {A K : Type 0} (sections : A → List (List ℕ)) (fits : List (List ℕ) → K → Type 0) (s : List (List ℕ)) (item : Result A MaxMindDbError) (old new : K)
+    → IfOk item (λ answer. sections answer ≡ s) → fits s old → FitsOf sections fits item old new → fits s new
+fits_on sections fits s (Ok answer) old new same before now = subst (λ t. fits t new) same now
+fits_on sections fits s (Err e) old new same before kept = subst (fits s) (sym kept) before
+
+pub fits_for : {A K : Type 0} (sections : A → List (List ℕ)) (fits : List (List ℕ) → K → Type 0) (s : List (List ℕ)) (item : Result A MaxMindDbError) (old : K)
+    → IfOk item (λ answer. sections answer ≡ s) → fits s old → IfOk item (λ answer. fits (sections answer) old)
+fits_for sections fits s (Ok answer) old same before = subst (λ t. fits t old) (sym same) before
+fits_for sections fits s (Err e) old same before = tt
+
+pub all_same : {A : Type 0} (sections : A → List (List ℕ)) (t s : List (List ℕ)) (item : Result A MaxMindDbError) → IfOk item (λ answer. sections answer ≡ t) → t ≡ s → IfOk item (λ answer. sections answer ≡ s)
+all_same sections t s (Ok answer) of same = of ∙ same
+all_same sections t s (Err e) of same = tt
+
+-- ---- one network
+
+-- a chosen network that can't be read was reported
+pub unput_reported : {E X : Type 0} (puts : X → List ℕ → X → Type 0) (unput : Type 0) (r : Result ℕ E) (e : MaxMindDbError) (old new : X) (before at after : Option (List ℕ))
+    → MemoryApart e unput × (new ≡ old) × Appends before at [] → IfOk r (λ fault. (fault ≡ 1) × (is_memory e ≡ false)) → Appends at after []
+    → IfOk r (λ fault. TakesChosen puts unput fault old new before after)
+unput_reported puts unput (Ok fault) e old new before at after (cant, kept, none) (one, is) more = inr (unless_memory e is cant, kept, nothing_more before at after none more, one)
+unput_reported puts unput (Err x) e old new before at after cant reported more = tt
+
+pub unsaid_reported : {E X : Type 0} (a : Asked X) (had : Had) (r : Result ℕ E) (e : MaxMindDbError) (old : X) (before after : Option (List ℕ))
+    → MemoryApart e (a.unsaid had.offsets) → IfOk r (λ fault. (fault ≡ 1) × (is_memory e ≡ false)) → Appends before after []
+    → IfOk r (λ fault. TakesItem a (Found had) fault old old before after)
+unsaid_reported a had (Ok fault) e old before after cant (one, is) none =
+    record { put = []; text = []; picked = inr (inl (unless_memory e is cant), refl, one); ran = (refl, refl); written = none }
+unsaid_reported a had (Err x) e old before after cant reported none = tt
+
+-- a network that is not chosen
+pub passed : {X : Type 0} (a : Asked X) (had : Had) (old : X) (before : Option (List ℕ)) → a.says had.offsets false → TakesItem a (Found had) 0 old old before before
+passed a had old before says = record { put = []; text = []; picked = inl (inr (says, refl), refl); ran = (refl, refl); written = Appends-nil before }
+
+-- a chosen network was taken, or not
+chosen_one : {X : Type 0} (a : Asked X) (had : Had) (fault : ℕ) (old new : X) (before after : Option (List ℕ)) → a.says had.offsets true
+    → TakesChosen (a.puts had) (a.unput had.offsets) fault old new before after → TakesItem a (Found had) fault old new before after
+chosen_one a had fault old new before after says (inl (text, put, written, none)) =
+    record { put = had ∷ []; text = text; picked = inl (inl (says, refl), none); ran = runs_one a.puts had old new text put; written = written }
+chosen_one a had fault old new before after says (inr (cant, kept, written, one)) =
+    record { put = []; text = []; picked = inr (inr (says, cant), refl, one); ran = (kept, refl); written = written }
+
+pub chosen_taken : {E X : Type 0} (a : Asked X) (had : Had) (r : Result ℕ E) (old new : X) (before after : Option (List ℕ))
+    → a.says had.offsets true → IfOk r (λ fault. TakesChosen (a.puts had) (a.unput had.offsets) fault old new before after)
+    → IfOk r (λ fault. TakesItem a (Found had) fault old new before after)
+chosen_taken a had (Ok fault) old new before after says taken = chosen_one a had fault old new before after says taken
+chosen_taken a had (Err x) old new before after says taken = tt

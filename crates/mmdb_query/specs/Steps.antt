@@ -1,0 +1,54 @@
+-- Steps of the loop that gives networks to a sink.
+use Rattle.std.specs.Prelude.{◌≡◌, ◌⊎◌, ℕ, List, [], Option, Bool, true, false, Result, Ok, Err}
+use Rattle.std.specs.Io.KnownBytes.{Appends}
+use Rattle.mmdb_format.specs.declared.error.MaxMindDbError.{MaxMindDbError}
+use Rattle.mmdb_format.specs.declared.error.MaxMindDbError.TheVariants.{Memory, InvalidDatabase, Io, Decoding, ResourceLimit, InvalidNetwork, InvalidInput}
+use Rattle.mmdb_query.specs.Had.{Had}
+use Rattle.mmdb_query.specs.Walks.{Item, Goes}
+use Rattle.mmdb_query.specs.Walks.Item.{Found}
+use Rattle.mmdb_query.specs.Taking.{Asked, IsPicked, ArePicked, Runs}
+
+-- memory is out
+abbrev pub is_memory : MaxMindDbError → Bool
+is_memory Memory = true
+is_memory (InvalidDatabase message offset) = false
+is_memory (Io e) = false
+is_memory (Decoding message offset path) = false
+is_memory (ResourceLimit message offset path) = false
+is_memory (InvalidNetwork e) = false
+is_memory (InvalidInput message) = false
+
+-- a chosen network was put, or what it needs can't be read
+abbrev pub TakesChosen : {X : Type 0} → (X → List ℕ → X → Type 0) → Type 0 → ℕ → X → X → Option (List ℕ) → Option (List ℕ) → Type 0
+TakesChosen puts unput fault old new before after =
+    ((text : List ℕ) × puts old text new × Appends before after text × (fault ≡ 0))
+    ⊎ (unput × (new ≡ old) × Appends before after [] × (fault ≡ 1))
+
+-- what was taken and written grew by what is put of an item
+pub record TakesItem {X : Type 0} (a : Asked X) (item : Item) (fault : ℕ) (old new : X) (before after : Option (List ℕ)) : Type 0 where
+  pub put : List Had
+  pub text : List ℕ
+  pub picked : IsPicked a item put fault
+  pub ran : Runs a.puts put old text new
+  pub written : Appends before after text
+
+-- the same of what a walk hands out: by its data sections, where it is an answer; and else memory is not out
+abbrev pub TakesStep : {A X : Type 0} → (List (List ℕ) → Asked X) → (A → List (List ℕ)) → (A → Had) → Result A MaxMindDbError → ℕ → X → X
+    → Option (List ℕ) → Option (List ℕ) → Type 0
+TakesStep of sections had (Ok answer) fault old new before after = TakesItem (of (sections answer)) (Found (had answer)) fault old new before after
+TakesStep of sections had (Err e) fault old new before after = (is_memory e ≡ false) × (fault ≡ 1) × (new ≡ old) × Appends before after []
+
+-- what is kept fits the data sections of an answer; and else nothing changed
+abbrev pub FitsOf : {A K : Type 0} → (A → List (List ℕ)) → (List (List ℕ) → K → Type 0) → Result A MaxMindDbError → K → K → Type 0
+FitsOf sections fits (Ok answer) old new = fits (sections answer) new
+FitsOf sections fits (Err e) old new = new ≡ old
+
+-- What was taken and written is what is put of the items that came.
+pub record UnderWay {W X : Type 0} (comes : W → List Item → Type 0) (a : Asked X) (first now : W) (old new : X) (before after : Option (List ℕ)) (faults : ℕ) : Type 0 where
+  pub done : List Item
+  pub put : List Had
+  pub text : List ℕ
+  pub came : Goes comes first done now
+  pub picked : ArePicked a done put faults
+  pub ran : Runs a.puts put old text new
+  pub written : Appends before after text

@@ -1,0 +1,150 @@
+//! The addresses of chosen networks.
+ghost use Rattle.std.specs.Prelude.{◌≡◌, ◌⊎◌, ◌↔◌, ◌<◌, ◌^◌, ℕ, [], ◌∷◌, IfOk, OnOk};
+ghost use Rattle.std.specs.Net.Addr.{is_ipv4};
+ghost use Rattle.std.specs.declared.net.ip_addr.IpAddr.{IpAddr};
+ghost use Rattle.mmdb_blocks.specs.Ranges.{IsAmong};
+ghost use Rattle.mmdb_reader.specs.File.{data_section};
+ghost use Rattle.mmdb_reader.specs.Lookup.{CanAsk};
+ghost use Rattle.mmdb_query.specs.Answered.{number_of_ip, IsOfWidth, IsAnswered};
+ghost use Rattle.mmdb_query.specs.Had.{network_bits};
+ghost use Rattle.mmdb_query.specs.Rows.{nothing};
+ghost use Rattle.mmdb_query.specs.Sets.{AddsNetwork, BeginsWith, Has, IsGathered, puts_addresses, needs_nothing};
+ghost use Rattle.mmdb_query.specs.Taking.{asks};
+
+use crate::answer::Answer;
+use crate::choice::Conditions;
+use crate::each::put_each;
+use crate::error::{Faults, QueryError};
+use crate::sink::Sink;
+use crate::walk::Walk;
+use mmdb_blocks::{Block, BlockRange, Ranges};
+use mmdb_reader::{IpNetwork, MaxMindDbError, Reader, WithinOptions};
+use std::alloc::{AllocError, Global};
+use std::convert::AsSlice;
+use std::io::{self, Write};
+
+/// Addresses of both kinds.
+#[derive(Drop)]
+pub struct Addresses {
+    ipv4: Ranges,
+    ipv6: Ranges,
+}
+
+// Adds the addresses of a network.
+fn add(ranges: &mut Ranges, network: IpNetwork) -> Result<(), AllocError>
+    ensures { OnOk result ((address : ℕ) → address < 2 ^ 128 → IsAmong address ranges.new
+        ↔ (IsAmong address ranges.old ⊎ BeginsWith (network_bits network) address)) }
+{
+    let block = Block::of_network(network);
+    ranges.add(BlockRange {
+        first: block.first,
+        last: block.last(),
+    })
+}
+
+impl Addresses {
+    /// None.
+    pub fn new(alloc: Global) -> Addresses
+        ensures ipv4 { result.ipv4 ≡ [] }
+        ensures ipv6 { result.ipv6 ≡ [] }
+    {
+        Addresses {
+            ipv4: Ranges::new(alloc),
+            ipv6: Ranges::new(alloc),
+        }
+    }
+
+    /// The addresses of IPv4.
+    pub fn ipv4(&self) -> &Ranges
+        ensures { result.now ≡ self.now.ipv4 }
+    {
+        &self.ipv4
+    }
+
+    /// The addresses of IPv6.
+    pub fn ipv6(&self) -> &Ranges
+        ensures { result.now ≡ self.now.ipv6 }
+    {
+        &self.ipv6
+    }
+
+    /// Adds the addresses of a network.
+    pub fn add(&mut self, network: IpNetwork) -> Result<(), AllocError>
+        ensures { OnOk result (AddsNetwork network self.old self.new) }
+    {
+        match network {
+            IpNetwork::V4(_) => add(&mut self.ipv4, network),
+            IpNetwork::V6(_) => add(&mut self.ipv6, network),
+        }
+    }
+}
+
+impl Sink for Addresses {
+    ghost use Rattle.mmdb_query.specs.declared.addresses.Addresses.{Addresses as SpecAddresses};
+
+    ghost Form = { Unit {0} };
+
+    ghost form = { λ _. nothing };
+
+    ghost Took = { SpecAddresses };
+
+    ghost took = { λ a. a };
+
+    ghost puts = { puts_addresses };
+
+    ghost is_unread = { needs_nothing };
+
+    ghost fits = { λ _ _. Unit {0} };
+
+    #[inline(always)]
+    fn put<A: Answer, O: Write>(
+        &mut self,
+        answer: &A,
+        _out: &mut O,
+    ) -> Result<Option<MaxMindDbError>, QueryError> {
+        self.add(answer.network())?;
+        Ok(None)
+    }
+}
+
+/// The addresses of the networks of a walk that meet all conditions; reports each that can't be read, and says how many can't.
+pub fn gather<W: Walk, C: Conditions, F: Faults>(
+    alloc: Global,
+    walk: &mut W,
+    conditions: &C,
+    faults: &mut F,
+) -> Result<(Addresses, u64), QueryError>
+    ensures { IfOk result (λ found. IsGathered (W.comes walk.old)
+        (asks C.says C.is_unread puts_addresses needs_nothing conditions.now nothing
+        (W.sections walk.old)) found.0 found.1) }
+{
+    let mut addresses = Addresses::new(alloc);
+    let unread = put_each(
+        alloc,
+        walk,
+        conditions,
+        &mut addresses,
+        &mut io::sink(),
+        faults,
+    )?;
+    Ok((addresses, unread))
+}
+
+/// The addresses of the networks of a database, outside aliased ones, that meet all conditions.
+pub fn gather_all<S: AsSlice<u8> + Drop, C: Conditions, F: Faults>(
+    alloc: Global,
+    reader: &Reader<S>,
+    conditions: &C,
+    faults: &mut F,
+) -> Result<(Addresses, u64), QueryError>
+    // An address that is in the set has a record that meets the conditions.
+    ensures { IfOk result (λ found. (address : IpAddr) → CanAsk reader.now address
+        → IsOfWidth address → Has found.0 (is_ipv4 address) (number_of_ip address)
+        → IsAnswered reader.now (C.says conditions.now (data_section reader.now ∷ [])) address) }
+{
+    let mut walk = match reader.networks(alloc, WithinOptions::default()) {
+        Ok(walk) => walk,
+        Err(_) => return Err(QueryError::Memory),
+    };
+    gather(alloc, &mut walk, conditions, faults)
+}

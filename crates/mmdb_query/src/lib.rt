@@ -1,0 +1,26 @@
+//! What one database has for an address or a network, or several have: one answer, which conditions choose, and which is put
+//! into rows or into sets of addresses.
+#![tactic(auto)]
+
+mod addresses;
+mod answer;
+mod choice;
+mod each;
+mod error;
+mod numbered;
+mod outline;
+mod rows;
+mod sink;
+mod template;
+mod values;
+mod walk;
+
+pub use addresses::{Addresses, gather, gather_all};
+pub use answer::Answer;
+pub use choice::{Choice, Conditions};
+pub use each::put_each;
+pub use error::{Faults, QueryError};
+pub use rows::{Rows, export_rows};
+pub use sink::Sink;
+pub use template::Template;
+pub use walk::Walk;

@@ -1,0 +1,74 @@
+//! What is read along a path in the record of one database.
+ghost use Rattle.std.specs.Prelude.{◌≡◌};
+ghost use Rattle.mmdb_reader.specs.Found.{section_asked, offset_found};
+ghost use Rattle.mmdb_reader.specs.Selecting.{meets_other_from};
+ghost use Rattle.mmdb_query.specs.Reading.{reads_in, value_found, outline_found, stands_for_none, IsReadAs};
+
+use crate::outline::Outline;
+use mmdb_reader::{LookupResult, MaxMindDbError, PathElement};
+use mmdb_value::Value;
+use std::alloc::Global;
+use std::convert::AsSlice;
+
+// Whether an error stands for a path that leads nowhere, since a step of it meets a value of another type.
+#[cold]
+#[inline(never)]
+fn leads_nowhere<S: AsSlice<u8> + Drop>(
+    found: &LookupResult<'_, S>,
+    path: &[PathElement<'_>],
+    error: &MaxMindDbError,
+) -> bool
+    ensures { result ≡ stands_for_none error.now
+        (meets_other_from path.now (section_asked found.now) (offset_found found.now)) }
+{
+    match error {
+        MaxMindDbError::Memory => false,
+        _ => found.meets_other_type(path),
+    }
+}
+
+/// The value at the end of a path, or none where there is no record, or the path leads nowhere in it: also where a step of it
+/// meets a value of another type.
+#[inline(always)]
+pub(crate) fn value_along<'a, S: AsSlice<u8> + Drop>(
+    alloc: Global,
+    found: &LookupResult<'a, S>,
+    path: &[PathElement<'_>],
+) -> Result<Option<Value<'a>>, MaxMindDbError>
+    ensures { IsReadAs (reads_in value_found (section_asked found.now)
+        (offset_found found.now) path.now) result }
+{
+    match found.decode_path(alloc, path) {
+        Ok(value) => Ok(value),
+        Err(error) => {
+            if leads_nowhere(found, path, &error) {
+                Ok(None)
+            } else {
+                Err(error)
+            }
+        }
+    }
+}
+
+/// The same, but in place of a map or an array an empty one: no more of it is read than its header.
+pub(crate) fn outline_along<'a, S: AsSlice<u8> + Drop>(
+    alloc: Global,
+    found: &LookupResult<'a, S>,
+    path: &[PathElement<'_>],
+) -> Result<Option<Value<'a>>, MaxMindDbError>
+    ensures { IsReadAs (reads_in outline_found (section_asked found.now)
+        (offset_found found.now) path.now) result }
+{
+    let read: Result<Option<Outline<'a>>, MaxMindDbError> = found.decode_path(alloc, path);
+    match read {
+        Ok(Some(outline)) => Ok(Some(outline.value)),
+        Ok(None) => Ok(None),
+        Err(error) => {
+            if leads_nowhere(found, path, &error) {
+                Ok(None)
+            } else {
+                Err(error)
+            }
+        }
+    }
+}

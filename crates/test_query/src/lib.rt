@@ -1,0 +1,9 @@
+//! What no clause says of chosen networks: that they come where there is memory, and what is printed of them.
+#![tactic(auto)]
+
+#[cfg(test)]
+mod answers;
+#[cfg(test)]
+mod databases;
+#[cfg(test)]
+mod queries;

@@ -1,0 +1,217 @@
+//! Rows and sets of addresses of chosen networks, in databases whose networks are known by their nodes.
+ghost use Rattle.std.specs.Prelude.{⊤, ℕ, List};
+
+use super::databases::{BROKEN, FIRST, HALF, Tree, reader_of};
+use mmdb_blocks::{BlockKind, Ranges, listed_blocks};
+use mmdb_query::{Answer, Conditions, Faults, QueryError, Template, export_rows, gather_all};
+use mmdb_reader::{IpNetwork, MaxMindDbError, PathElement, WithinOptions};
+use mmdb_value::Value;
+use mmdb_vectors::failures::Failures;
+use std::alloc::{AllocError, Global};
+
+/// The field that conditions and rows are of.
+const FIELD: &[PathElement<'static>] = &[PathElement::Key("c")];
+
+/// The field is this text, if one is given.
+#[derive(Clone, Copy)]
+struct Is {
+    text: Option<&'static str>,
+}
+
+impl Conditions for Is {
+    ghost says = { λ _ _ _ _. ⊤ };
+
+    ghost is_unread = { λ _ _ _. ⊤ };
+
+    fn are_none(&self) -> bool {
+        self.text.is_none()
+    }
+
+    fn are_met<A: Answer>(&self, alloc: Global, answer: &A) -> Result<bool, MaxMindDbError> {
+        match answer.outline_along(alloc, FIELD)? {
+            Some(Value::String(text)) => Ok(Some(text) == self.text),
+            _ => Ok(false),
+        }
+    }
+}
+
+/// Rows of the field behind the network.
+#[derive(Clone, Copy)]
+struct Cells {
+    front: &'static str,
+}
+
+// The cell of a value.
+fn push_cell(value: Option<&Value<'_>>, tail: &mut Vec<u8>) -> Result<(), AllocError> {
+    match value {
+        Some(Value::String(text)) => tail.extend_from_slice(text.as_bytes()),
+        Some(_) => tail.extend_from_slice(b"?"),
+        None => Ok(()),
+    }
+}
+
+impl Template for Cells {
+    ghost front = { λ t. t.front.now };
+
+    ghost is_tail = { λ _ _ _ _. ⊤ };
+
+    ghost is_unread = { λ _ _ _. ⊤ };
+
+    fn front(&self) -> &[u8] {
+        self.front.as_bytes()
+    }
+
+    fn tail<A: Answer>(&self, alloc: Global, answer: &A) -> Result<Vec<u8>, MaxMindDbError> {
+        let mut tail = Vec::new(alloc);
+        tail.push(b' ')?;
+        let value = answer.read_along(alloc, FIELD)?;
+        push_cell(value.as_ref(), &mut tail)?;
+        tail.push(b'\n')?;
+        Ok(tail)
+    }
+}
+
+/// Networks that can't be read, one behind the other.
+#[derive(Drop)]
+struct Reported {
+    text: Vec<u8>,
+}
+
+impl Faults for Reported {
+    fn report(
+        &mut self,
+        network: Option<IpNetwork>,
+        _error: &MaxMindDbError,
+    ) -> Result<(), QueryError> {
+        match network {
+            Some(network) => network.push_text(&mut self.text)?,
+            None => self.text.push(b'-')?,
+        }
+        self.text.push(b'!')?;
+        Ok(())
+    }
+}
+
+/// A database, what its field has to be, what rows begin with; the rows, the networks that can't be read, and the blocks of the
+/// addresses.
+#[derive(Clone, Copy, Debug)]
+struct Row {
+    tree: Tree,
+    text: Option<&'static str>,
+    front: &'static str,
+    rows: &'static str,
+    unread: &'static str,
+    count: u64,
+    unmet: &'static str,
+    blocks: &'static str,
+}
+
+#[rattlefmt::skip]
+const ROWS: &[Row] = &[
+    Row { tree: FIRST, text: None, front: "", rows: "64.0.0.0/2 A\n128.0.0.0/2 B\n192.0.0.0/2 A\n", unread: "", count: 0, unmet: "", blocks: "64.0.0.0/2 128.0.0.0/1 " },
+    Row { tree: FIRST, text: Some("A"), front: "", rows: "64.0.0.0/2 A\n192.0.0.0/2 A\n", unread: "", count: 0, unmet: "", blocks: "64.0.0.0/2 192.0.0.0/2 " },
+    Row { tree: FIRST, text: Some("B"), front: "at ", rows: "at 128.0.0.0/2 B\n", unread: "", count: 0, unmet: "", blocks: "128.0.0.0/2 " },
+    Row { tree: FIRST, text: Some("C"), front: "", rows: "", unread: "", count: 0, unmet: "", blocks: "" },
+    // all are put without conditions, though the row of one can't be read
+    Row { tree: BROKEN, text: None, front: "", rows: "0.0.0.0/2 ?\n192.0.0.0/2 A\n", unread: "64.0.0.0/2!", count: 1, unmet: "", blocks: "0.0.0.0/1 192.0.0.0/2 " },
+    Row { tree: BROKEN, text: Some("A"), front: "", rows: "192.0.0.0/2 A\n", unread: "64.0.0.0/2!", count: 1, unmet: "64.0.0.0/2!", blocks: "192.0.0.0/2 " },
+    Row { tree: HALF, text: None, front: "", rows: "0.0.0.0/1 B\n", unread: "", count: 0, unmet: "", blocks: "0.0.0.0/1 " },
+];
+
+/// What came of a query: what was written or listed, what was reported, and how many networks can't be read.
+#[derive(Drop)]
+struct Came {
+    text: Vec<u8>,
+    reported: Vec<u8>,
+    count: u64,
+}
+
+// Whether this came.
+fn is_came(came: &Result<Came, QueryError>, text: &str, reported: &str, count: u64) -> bool {
+    match came {
+        Ok(came) => {
+            came.text.as_slice() == text.as_bytes()
+                && came.reported.as_slice() == reported.as_bytes()
+                && came.count == count
+        }
+        Err(_) => false,
+    }
+}
+
+// What an error of a database is here.
+fn of_database(_error: MaxMindDbError) -> QueryError {
+    QueryError::Memory
+}
+
+// The rows of a row of the table.
+fn rows_of(alloc: Global, row: &Row) -> Result<Came, QueryError> {
+    let reader = reader_of(alloc, row.tree).map_err(of_database)?;
+    let mut walk = reader
+        .networks(alloc, WithinOptions::default())
+        .map_err(of_database)?;
+    let mut faults = Reported {
+        text: Vec::new(alloc),
+    };
+    let mut text = Vec::new(alloc);
+    let conditions = Is { text: row.text };
+    let template = Cells { front: row.front };
+    let count = export_rows(
+        alloc,
+        &mut walk,
+        &template,
+        &conditions,
+        &mut text,
+        &mut faults,
+    )?;
+    Ok(Came {
+        text,
+        reported: faults.text,
+        count,
+    })
+}
+
+// The fewest blocks of a set of addresses.
+fn push_blocks(alloc: Global, ranges: &Ranges, text: &mut Vec<u8>) -> Result<(), QueryError> {
+    let none = Ranges::new(alloc);
+    let Ok(blocks) = listed_blocks(alloc, ranges, &none, &none) else {
+        return Err(QueryError::Memory);
+    };
+    for block in blocks.as_slice() {
+        if let Ok(network) = BlockKind::Ipv4.network_of(*block) {
+            network.push_text(text)?;
+            text.push(b' ')?;
+        }
+    }
+    Ok(())
+}
+
+// The addresses of a row of the table.
+fn blocks_of(alloc: Global, row: &Row) -> Result<Came, QueryError> {
+    let reader = reader_of(alloc, row.tree).map_err(of_database)?;
+    let mut faults = Reported {
+        text: Vec::new(alloc),
+    };
+    let conditions = Is { text: row.text };
+    let (addresses, count) = gather_all(alloc, &reader, &conditions, &mut faults)?;
+    let mut text = Vec::new(alloc);
+    push_blocks(alloc, addresses.ipv4(), &mut text)?;
+    push_blocks(alloc, addresses.ipv6(), &mut text)?;
+    Ok(Came {
+        text,
+        reported: faults.text,
+        count,
+    })
+}
+
+#[test]
+fn rows_and_addresses(rt: HostRuntime) -> Result<(), Failures> {
+    let mut failures = Failures::new(rt.alloc());
+    for row in ROWS {
+        let came = rows_of(rt.alloc(), row);
+        failures.expect(row, is_came(&came, row.rows, row.unread, row.count));
+        let listed = blocks_of(rt.alloc(), row);
+        let count = if row.unmet.is_empty() { 0 } else { 1 };
+        failures.expect(row, is_came(&listed, row.blocks, row.unmet, count));
+    }
+    failures.verdict()
+}

@@ -1,0 +1,7 @@
+use Rattle.std.proofs.Common.{refl}
+use Rattle.mmdb_filter.specs.Lines.{most_seen}
+use Rattle.test_rows.proofs.tests.streams.MarksAdditions.most_seen.Goals as goal
+
+pub returns-clause-most : goal.returns-clause-most
+unfolding most_seen
+returns-clause-most c = refl
