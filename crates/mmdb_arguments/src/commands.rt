@@ -124,8 +124,8 @@ its last lines, but by haproxy and pf. Of cidr the status speaks alone.
 Where a list would have no network, or no network has a value of a condition,
 nothing is written, so that a wrong value empties no set, and the status is 1. A
 list of cidr empties no set: an empty one is written, a value that no network has
-is said, and the status is 0, but 1 where no network has any value of a @FILE. A
-row names of a network that is wider than RANGE just RANGE.
+is said, and the status is 0. A row names of a network that is wider than RANGE
+just RANGE.
 
 RANGE within ::ffff:0:0/96 is one of IPv4, which is said, unless a file has
 networks of its own there. So is a network in the files of --also and --except;

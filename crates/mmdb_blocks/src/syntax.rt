@@ -200,42 +200,58 @@ fn nft_set(
     )
 }
 
-// The lines that make a set for ipset, if it is not there, and an empty one beside it, also where one was left there.
-fn ipset_new(alloc: Global, name: &str, kind: BlockKind) -> Result<String, AllocError> {
-    let set = suffix(kind);
+// The type of a set of ipset, with room for each network.
+fn ipset_type(alloc: Global, kind: BlockKind) -> Result<String, AllocError> {
     let family = match kind {
         BlockKind::Ipv4 => "inet",
         BlockKind::Ipv6 => "inet6",
     };
-    let made: String = format!(in alloc; "hash:net family {family} maxelem 4294967295")?;
-    format!(in alloc;
-        "create {name}_{set} {made} -exist\ncreate {name}_{set}.new {made} -exist\ndestroy {name}_{set}.new\ncreate {name}_{set}.new {made}\n"
-    )
+    format!(in alloc; "hash:net family {family} maxelem 4294967295")
 }
 
-// The line that puts the new set of ipset in the place of the old one.
-fn ipset_swap(alloc: Global, name: &str, kind: BlockKind) -> Result<String, AllocError> {
-    let set = suffix(kind);
-    format!(in alloc; "swap {name}_{set}.new {name}_{set}\n")
+// The line that makes a new set for ipset. It is an error where one is there, which a list left that was cut.
+fn ipset_new(alloc: Global, name: &str, kind: BlockKind) -> Result<String, AllocError> {
+    let (set, made) = (suffix(kind), ipset_type(alloc, kind)?);
+    format!(in alloc; "create {name}_{set}.new {made}\n")
 }
 
-// The line that takes the old set of ipset away, which has the name of the new one then.
-fn ipset_destroy(alloc: Global, name: &str, kind: BlockKind) -> Result<String, AllocError> {
-    let set = suffix(kind);
-    format!(in alloc; "destroy {name}_{set}.new\n")
+/// What the last lines of a list for ipset do with a kind of addresses.
+#[derive(Clone, Copy)]
+enum IpsetStep {
+    /// The set is made, if it is not there.
+    Make,
+    /// The new set takes its place.
+    Swap,
+    /// The old set, which has the name of the new one then, is taken away.
+    Destroy,
+}
+
+/// These in their order.
+const IPSET_STEPS: [IpsetStep; 3] = [IpsetStep::Make, IpsetStep::Swap, IpsetStep::Destroy];
+
+// The line of a step. Within quotes a line that is cut is an error: `destroy` alone takes away every set.
+fn ipset_line(
+    alloc: Global,
+    step: IpsetStep,
+    name: &str,
+    kind: BlockKind,
+) -> Result<String, AllocError> {
+    let (set, made) = (suffix(kind), ipset_type(alloc, kind)?);
+    match step {
+        IpsetStep::Make => format!(in alloc; "create {name}_{set} {made} -exist\n"),
+        IpsetStep::Swap => format!(in alloc; "swap {name}_{set}.new \"{name}_{set}\"\n"),
+        IpsetStep::Destroy => format!(in alloc; "\"destroy\" \"{name}_{set}.new\"\n"),
+    }
 }
 
 // The lines that put the new sets of ipset of the wanted kinds in the place of the old ones, and take those away.
 fn ipset_swaps(alloc: Global, name: &str, kinds: Kinds) -> Result<String, AllocError> {
     let mut text = String::new(alloc);
-    for kind in KINDS {
-        if kinds.has(kind) {
-            text.push_str(ipset_swap(alloc, name, kind)?.as_str())?;
-        }
-    }
-    for kind in KINDS {
-        if kinds.has(kind) {
-            text.push_str(ipset_destroy(alloc, name, kind)?.as_str())?;
+    for step in IPSET_STEPS {
+        for kind in KINDS {
+            if kinds.has(kind) {
+                text.push_str(ipset_line(alloc, step, name, kind)?.as_str())?;
+            }
         }
     }
     Ok(text)

@@ -111,7 +111,8 @@ impl<'a, 'f, S: AsSlice<u8> + Drop> Enrichment<'a, 'f, S> {
         }
     }
 
-    // Adds the cells of a record that was not kept, and keeps them.
+    // Adds the cells of a record that was not kept, and keeps them, unless it can't be read and rows with such records are
+    // still named.
     #[inline(never)]
     fn put_record(
         &self,
@@ -132,7 +133,9 @@ impl<'a, 'f, S: AsSlice<u8> + Drop> Enrichment<'a, 'f, S> {
         let paths = self.paths.as_slice();
         let are_read = put_cells(self.alloc, self.rows, found, &mut (), paths, out)?;
         let outcome = outcome_of(are_read);
-        cache.keep(offset, &out.as_slice()[before..], outcome);
+        if are_read || notes.have_all_failures() {
+            cache.keep(offset, &out.as_slice()[before..], outcome);
+        }
         self.note(found, offset, are_read, notes);
         Ok(outcome)
     }

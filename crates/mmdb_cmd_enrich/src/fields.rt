@@ -9,6 +9,8 @@ pub(crate) struct AskedField<'a> {
     pub(crate) path: &'a str,
     /// Whether it was said that no record has it.
     pub(crate) is_said: bool,
+    /// Whether no record of the databases has it, be it of other rows. It is looked for where that sets the status.
+    pub(crate) is_nowhere: bool,
 }
 
 /// The fields that these texts ask for, each a path or a name and a path.
@@ -21,6 +23,7 @@ pub(crate) fn wanted_fields<'a>(
         fields.push(AskedField {
             path: *path,
             is_said: false,
+            is_nowhere: false,
         })?;
     }
     Ok(fields)

@@ -184,7 +184,8 @@ impl<'a, 'f, S: AsSlice<u8> + Drop> JsonEnrichment<'a, 'f, S> {
         }
     }
 
-    // Adds the member of a record that was not kept, and keeps it.
+    // Adds the member of a record that was not kept, and keeps it, unless it can't be read and rows with such records are still
+    // named.
     #[inline(never)]
     fn put_record(
         &self,
@@ -208,8 +209,11 @@ impl<'a, 'f, S: AsSlice<u8> + Drop> JsonEnrichment<'a, 'f, S> {
         let fields = self.fields.as_slice();
         let member = member_of(self.alloc, found, &mut (), self.name, fields)?;
         let kept = kept_of(&member);
-        cache.keep(offset, kept.cells, kept.outcome);
-        self.note(found, offset, kept.outcome == Outcome::Found, notes);
+        let is_read = kept.outcome == Outcome::Found;
+        if is_read || notes.have_all_failures() {
+            cache.keep(offset, kept.cells, kept.outcome);
+        }
+        self.note(found, offset, is_read, notes);
         put_member(line, kept, out)
     }
 

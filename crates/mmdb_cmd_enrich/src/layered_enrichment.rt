@@ -113,7 +113,8 @@ impl<'a, 'f, S: AsSlice<u8> + Drop> LayeredEnrichment<'a, 'f, S> {
         }
     }
 
-    // Adds the cells of records that were not kept, and keeps them.
+    // Adds the cells of records that were not kept, and keeps them, unless one can't be read and rows with such records are still
+    // named.
     #[inline(never)]
     fn put_records(
         &self,
@@ -140,7 +141,9 @@ impl<'a, 'f, S: AsSlice<u8> + Drop> LayeredEnrichment<'a, 'f, S> {
         let are_read = put_cells(self.alloc, self.rows, layers, reads, paths, out)?;
         let outcome = outcome_of_all(layers.has_record(), are_read);
         let are_dear = notes.are_dear(paths.len(), are_read, reads.unkept == unkept);
-        cache.keep_numbered(layers.key, &out.as_slice()[before..], outcome, are_dear);
+        if are_read || notes.have_all_failures() {
+            cache.keep_numbered(layers.key, &out.as_slice()[before..], outcome, are_dear);
+        }
         self.note(layers, are_read, notes);
         Ok(outcome)
     }

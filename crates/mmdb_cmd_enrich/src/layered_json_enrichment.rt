@@ -102,7 +102,8 @@ impl<'a, 'f, S: AsSlice<u8> + Drop> LayeredJsonEnrichment<'a, 'f, S> {
         }
     }
 
-    // Adds the member of records that were not kept, and keeps it.
+    // Adds the member of records that were not kept, and keeps it, unless one can't be read and rows with such records are still
+    // named.
     #[inline(never)]
     fn put_records(
         &self,
@@ -136,7 +137,9 @@ impl<'a, 'f, S: AsSlice<u8> + Drop> LayeredJsonEnrichment<'a, 'f, S> {
         let kept = kept_of(&member);
         let are_read = kept.outcome == Outcome::Found;
         let are_dear = notes.are_dear(fields.len(), are_read, reads.unkept == unkept);
-        cache.keep_numbered(layers.key, kept.cells, kept.outcome, are_dear);
+        if are_read || notes.have_all_failures() {
+            cache.keep_numbered(layers.key, kept.cells, kept.outcome, are_dear);
+        }
         self.note(layers, are_read, notes);
         put_member(line, kept, out)
     }

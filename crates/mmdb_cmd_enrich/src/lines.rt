@@ -31,6 +31,9 @@ use std::time::Clock;
 /// What the names of records may not be: `show` has the address under it.
 const ADDRESS: &str = "address";
 
+/// What is said of rows of which only the beginning is seen, where the first one names the columns.
+const UNCOUNTED: &str = "of more than 65536 bytes, of which no cells are counted";
+
 // Adds how many rows are besides so, and the first of them, where there are some.
 fn push_named(
     alloc: Global,
@@ -46,12 +49,12 @@ fn push_named(
     text.push_str(more.as_str())
 }
 
-// How rows fared, in words, with those that have more cells than the first row.
+// How rows fared, in words, with those that have more cells than the first row, and those that are too long to be counted so.
 fn text_of_rows(
     alloc: Global,
     counts: Counts,
-    wider: u64,
-    first: Option<u64>,
+    records: &Notes,
+    before: u64,
 ) -> Result<String, AllocError> {
     let Counts {
         found,
@@ -65,9 +68,16 @@ fn text_of_rows(
     )?;
     push_named(
         alloc,
-        wider,
+        records.wider,
         "with more cells than the first line",
-        first,
+        records.first_wider.map(|row| row.saturating_add(before)),
+        &mut text,
+    )?;
+    push_named(
+        alloc,
+        records.long,
+        UNCOUNTED,
+        records.first_long.map(|row| row.saturating_add(before)),
         &mut text,
     )?;
     line_of(alloc, Ok(text))
@@ -138,11 +148,13 @@ impl<'n, 'a> Passage<'n, 'a> {
         notes: &'n mut Warnings<'a>,
         lookout: Lookout,
     ) -> Passage<'n, 'a> {
+        let mut records = Notes::new(alloc);
+        records.passes_unasked = notes.is_quiet();
         Passage {
             kind: kind_of_input(rt),
             bytes: 0,
             counts: Counts::new(),
-            records: Notes::new(alloc),
+            records,
             is_checked: false,
             notes,
             lookout,
@@ -582,12 +594,8 @@ fn enrich_all_rows<R: Files + Clock, I: Live, O: Write, E: Pace>(
     copy_columns(
         rt, databases, names, arguments, columns, input, passage, console,
     )?;
-    let before = passage.notes.before;
-    let first = passage
-        .records
-        .first_wider
-        .map(|row| row.saturating_add(before));
-    let text = text_of_rows(console.alloc, passage.counts, passage.records.wider, first);
+    let (counts, before) = (passage.counts, passage.notes.before);
+    let text = text_of_rows(console.alloc, counts, &passage.records, before);
     finish(databases.as_slice(), text, passage, console)
 }
 
@@ -668,14 +676,18 @@ fn enrich_to_objects<R: Files + Env + Clock, I: Live, O: Write, E: Pace>(
     )
 }
 
-// The names of the databases.
+// The names of the databases, each once.
 fn names_of<'a>(
     alloc: Global,
     arguments: &EnrichArguments<'a>,
 ) -> Result<Vec<&'a str>, AllocError> {
     let mut names = Vec::new(alloc);
     names.push(arguments.file)?;
-    names.extend_from_slice(arguments.others.as_slice())?;
+    for name in &arguments.others {
+        if !names.contains(name) {
+            names.push(*name)?;
+        }
+    }
     Ok(names)
 }
 

@@ -1,4 +1,4 @@
-//! Whether records of databases have fields that no record of the lines had.
+//! Which fields that no record of the lines had other records of databases have.
 use mmdb_console::wanted_path;
 use mmdb_layout::{Database, FieldsMet, networks_in};
 use mmdb_reader::{MaxMindDbError, PathElement};
@@ -9,8 +9,10 @@ use std::collections::HashSet;
 fn paths_of<'p>(alloc: Global, texts: &[&'p str]) -> Result<Vec<Vec<PathElement<'p>>>, AllocError> {
     let mut paths = Vec::new(alloc);
     for text in texts {
-        if let Ok(path) = wanted_path(alloc, *text) {
-            paths.push(path)?;
+        match wanted_path(alloc, *text) {
+            Ok(path) => paths.push(path)?,
+            // of texts that are paths
+            Err(_) => return Err(AllocError),
         }
     }
     Ok(paths)
@@ -39,16 +41,16 @@ fn look_through(
     Ok(())
 }
 
-/// Whether for each of these paths a record of the databases has a value there. One that is not whole is not looked through.
-pub(crate) fn have_all(alloc: Global, databases: &[Database], texts: &[&str]) -> bool {
-    let Ok(paths) = paths_of(alloc, texts) else {
-        return false;
-    };
-    let Ok(mut met) = FieldsMet::new(alloc, paths.len()) else {
-        return false;
-    };
+/// Which of the fields at these paths a record of the databases has. One that is not whole is not looked through.
+pub(crate) fn fields_met(
+    alloc: Global,
+    databases: &[Database],
+    texts: &[&str],
+) -> Result<FieldsMet, AllocError> {
+    let paths = paths_of(alloc, texts)?;
+    let mut met = FieldsMet::new(alloc, paths.len())?;
     for database in databases {
         let _ = look_through(alloc, database, paths.as_slice(), &mut met);
     }
-    met.are_all_met()
+    Ok(met)
 }

@@ -45,6 +45,12 @@ pub struct Notes {
     pub wider: u64,
     /// The number of the first of them.
     pub first_wider: Option<u64>,
+    /// How many rows are too long for that to be known.
+    pub long: u64,
+    /// The number of the first of them.
+    pub first_long: Option<u64>,
+    /// Whether it is not noted which rows have an address that no database can be asked for.
+    pub passes_unasked: bool,
     /// The first rows whose record can't be read, at most 10.
     pub failures: Vec<RowFailure>,
     /// Of each field whether a record had a value there. A field at which none is noted had none.
@@ -73,6 +79,9 @@ impl Notes {
             unasked: 0,
             wider: 0,
             first_wider: None,
+            long: 0,
+            first_long: None,
+            passes_unasked: false,
             failures: Vec::new(alloc),
             met: Vec::new(alloc),
             records: Vec::new(alloc),
@@ -93,10 +102,24 @@ impl Notes {
         }
     }
 
+    /// Notes that this row is too long for its cells to be counted.
+    pub(crate) fn note_long(&mut self) {
+        self.long = self.long.saturating_add(1);
+        if self.first_long.is_none() {
+            self.first_long = Some(self.rows);
+        }
+    }
+
+    /// Whether it is noted of no row more why its record can't be read.
+    #[inline(always)]
+    pub(crate) fn have_all_failures(&self) -> bool {
+        self.failures.len() >= MOST_FAILURES
+    }
+
     // Whether it is noted already why the record of this row can't be read, or there is no room for that.
     fn has_failure(&self) -> bool {
         let count = self.failures.len();
-        count >= MOST_FAILURES || (count > 0 && self.failures[count - 1].row == self.rows)
+        self.have_all_failures() || (count > 0 && self.failures[count - 1].row == self.rows)
     }
 
     /// Notes why the record of this row can't be read, in the database of a name, if it has one.
@@ -260,6 +283,9 @@ impl Notes {
     fn note_lookup(&mut self, alloc: Global, name: Option<&str>, error: &MaxMindDbError) {
         if let MaxMindDbError::InvalidInput { .. } = error {
             self.unasked = self.unasked.saturating_add(1);
+            if self.passes_unasked {
+                return;
+            }
         }
         self.note_failure(alloc, name, error);
     }

@@ -19,7 +19,8 @@ fn put_delimiters(rows: Rows, count: usize, out: &mut Vec<u8>) -> Result<(), All
     Ok(())
 }
 
-// Adds the delimiters that a row lacks where the first row has so many. A row with more cells than the first one is noted.
+// Adds the delimiters that a row lacks where the first row has so many. A row with more cells than the first one is noted, and
+// one of which not all is seen.
 #[inline(never)]
 fn put_padding(
     rows: Rows,
@@ -32,7 +33,11 @@ fn put_padding(
     ensures { OnOk result (PutsPadding rows (Some breaks) text.now is_long
         out.old.items out.new.items) }
 {
-    if is_long || text.is_empty() {
+    if is_long {
+        notes.note_long();
+        return Ok(());
+    }
+    if text.is_empty() {
         return Ok(());
     }
     let count = breaks_in(rows, text);

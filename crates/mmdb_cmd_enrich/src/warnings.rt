@@ -3,7 +3,7 @@ use crate::fields::AskedField;
 use crate::json_enrichment::JsonMemory;
 use crate::layered_enrichment::LayeredMemory;
 use crate::layered_json_enrichment::LayeredJsonMemory;
-use crate::missing::have_all;
+use crate::missing::fields_met;
 use crate::notes::Notes as Records;
 use crate::row_memory::RowMemory;
 use mmdb_arguments::EnrichArguments;
@@ -127,8 +127,12 @@ fn no_address(alloc: Global, place: AddressPlace<'_>) -> Result<String, AllocErr
 
 // Whether rows passed, and none had an address.
 fn had_no_address(counts: Counts) -> bool {
-    let had = counts.found > 0 || counts.absent > 0 || counts.rejected > 0 || counts.occupied > 0;
-    !had && (counts.unreadable > 0 || counts.malformed > 0)
+    !has_asked(counts) && (counts.unreadable > 0 || counts.malformed > 0)
+}
+
+// Whether databases were asked for an address.
+fn has_asked(counts: Counts) -> bool {
+    counts.found > 0 || counts.absent > 0 || counts.rejected > 0 || counts.occupied > 0
 }
 
 // Whether a row got no answer that it asked for. An address without a record is an answer.
@@ -214,7 +218,7 @@ impl<'a> Warnings<'a> {
         }
     }
 
-    // Says which fields no such record has, each once.
+    // Says which fields no such record has, each once: where only what sets the status is said, those that no record has.
     fn say_missing<O: Write, E: Write>(
         &mut self,
         whose: &str,
@@ -224,7 +228,8 @@ impl<'a> Warnings<'a> {
     ) {
         let alloc = console.alloc;
         for (at, field) in self.fields.iter_mut().enumerate() {
-            if self.said < MOST_SAID && !field.is_said && !is_met(records, at) {
+            let is_to_say = self.says_counts || field.is_nowhere;
+            if self.said < MOST_SAID && is_to_say && !field.is_said && !is_met(records, at) {
                 field.is_said = true;
                 self.said = self.said.saturating_add(1);
                 let text = missing_text(alloc, whose, field.path, records, databases);
@@ -269,6 +274,8 @@ impl<'a> Warnings<'a> {
         }
         if counts.found > 0 {
             self.say_missing(whose, records, databases, console);
+        } else if self.has_nowhere() {
+            self.say_missing("no record", records, databases, console);
         }
     }
 
@@ -289,24 +296,36 @@ impl<'a> Warnings<'a> {
         );
     }
 
-    // Whether a record was found, and none of those of the databases has one of the fields, be it of other lines.
-    fn has_missing(
-        &self,
+    // Whether one of the fields is known to be in no record.
+    fn has_nowhere(&self) -> bool {
+        self.fields.iter().any(|field| field.is_nowhere)
+    }
+
+    // Looks through the databases for the fields that no record of the lines had.
+    fn find_nowhere(
+        &mut self,
         alloc: Global,
-        counts: Counts,
         records: &Records,
         databases: &[Database],
-    ) -> bool {
-        if counts.found == 0 {
-            return false;
-        }
+    ) -> Result<(), AllocError> {
         let mut missing = Vec::new(alloc);
         for (at, field) in self.fields.iter().enumerate() {
-            if !is_met(records, at) && missing.push(field.path).is_err() {
-                return true;
+            if !is_met(records, at) {
+                missing.push(field.path)?;
             }
         }
-        !missing.is_empty() && !have_all(alloc, databases, missing.as_slice())
+        if missing.is_empty() {
+            return Ok(());
+        }
+        let met = fields_met(alloc, databases, missing.as_slice())?;
+        let mut place = 0usize;
+        for (at, field) in self.fields.iter_mut().enumerate() {
+            if !is_met(records, at) {
+                field.is_nowhere = !met.is_met(place);
+                place = place.saturating_add(1);
+            }
+        }
+        Ok(())
     }
 
     /// Says what is amiss with all rows of the input, and was not said.
@@ -317,6 +336,11 @@ impl<'a> Warnings<'a> {
         databases: &[Database],
         console: &mut Console<'_, O, E>,
     ) {
+        let is_unknown = self.is_strict
+            && has_asked(counts)
+            && self
+                .find_nowhere(console.alloc, records, databases)
+                .is_err();
         self.say(
             "none of the lines' records",
             counts,
@@ -324,8 +348,7 @@ impl<'a> Warnings<'a> {
             databases,
             console,
         );
-        self.has_warned |= records.wider > 0
-            || (self.is_strict && self.has_missing(console.alloc, counts, records, databases));
+        self.has_warned |= records.wider > 0 || records.long > 0 || is_unknown || self.has_nowhere();
     }
 
     /// Says how the rows fared, and answers the status: `unasked` of those with an error have an address that no database can

@@ -8,7 +8,7 @@ use crate::networks::{
 };
 use crate::task::{ExportTask, Shape, export_task};
 use mmdb_arguments::ListDiffArguments;
-use mmdb_blocks::{Block, BlockKind, List, RangesError, blocks_without};
+use mmdb_blocks::{Block, BlockKind, Kinds, List, RangesError, blocks_without};
 use mmdb_console::{Console, DIFFERENT, DONE, FAILED, Pace, ProgramError, note_range, range_of};
 use mmdb_layout::{Database, can_be_walked, open_database, range_asked};
 use mmdb_reader::IpNetwork;
@@ -41,9 +41,9 @@ impl ListChanges {
         }
     }
 
-    // Whether the new list has no blocks.
-    fn is_empty(&self) -> bool {
-        !self.ipv4.has_new && !self.ipv6.has_new
+    // Whether the new list has no blocks of some kinds.
+    fn is_empty(&self, kinds: Kinds) -> bool {
+        !KINDS.iter().any(|kind| kinds.has(*kind) && self.of(*kind).has_new)
     }
 
     // Whether nothing changes.
@@ -99,7 +99,7 @@ fn write_changes<O: Write>(
     let Shape::List(syntax) = &task.shape else {
         return Ok(());
     };
-    if changes.is_empty() && !task.allow_empty && !task.may_lack() {
+    if changes.is_empty(task.kinds) && !task.allow_empty && !task.may_lack() {
         return Err(ProgramError::EmptyList);
     }
     let mut list = List::of_changes(alloc, *syntax, task.kinds)?;

@@ -289,7 +289,7 @@ impl<'t, 'a> Search<'t, 'a> {
 
     // What becomes of the list where no network has any of the values of a file.
     fn lack_of_file(&self, file: &FileSearch<'_>, task: &ExportTask<'_>) -> Lack {
-        if task.allow_empty || task.allow_missing || !file.is_all_missing() {
+        if task.allow_missing || !file.is_all_missing() {
             Lack::Noted
         } else if file.wanted != Requirement::NoneOf
             && !self.is_served(file.present.path.as_slice(), file.wanted)

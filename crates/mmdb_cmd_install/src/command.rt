@@ -370,10 +370,12 @@ fn say_dry<O: Write, E: Write>(
     console: &mut Console<'_, O, E>,
 ) -> u8 {
     let (new, dest) = (task.new, task.dest);
-    note(
-        console,
-        format!(in console.alloc; "mmdb: {dest}: {new} would be installed, {count} bytes"),
-    );
+    if !task.quiet {
+        note(
+            console,
+            format!(in console.alloc; "mmdb: {dest}: {new} would be installed, {count} bytes"),
+        );
+    }
     DONE
 }
 
