@@ -61,8 +61,8 @@ is, unless it has control characters; any other value is JSON. With --delimiter 
 the input is CSV: cells may be in quotes, and added cells are where they need them,
 with control characters as JSON writes them. With --no-quotes the delimiter in an
 added cell is so too. The address is looked for in the first 65,536 bytes of a line.
-With --header a line with fewer cells than the first gets the delimiters that it
-lacks; lines with more are counted.
+With --header a line of at most so many with fewer cells than the first gets the
+delimiters that it lacks; lines with more cells, and longer ones, are counted.
 
 With --anywhere --hop last the address is the last one in the line. Where a client
 chooses what ends a line, as in others of sshd than those above, it may name any.

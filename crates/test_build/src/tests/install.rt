@@ -182,6 +182,20 @@ fn a_dry_run_changes_nothing(rt: HostRuntime) {
     }
 }
 
+#[test]
+fn a_quiet_dry_run_says_nothing(rt: HostRuntime) {
+    let alloc = rt.alloc();
+    let rows = b"{\"network\":\"1.0.0.0/9\",\"record\":1}\n";
+    for (quiet, said) in [(false, "mmdb: out.mmdb: new.mmdb would be installed, "), (true, "")] {
+        let disk = disk_with(&rt, alloc, &[], rows);
+        let mut arguments = arguments("out.mmdb", None, true);
+        arguments.quiet = quiet;
+        let run = install_on(alloc, &disk, &arguments);
+        let is_said = run.err().starts_with(said) && run.err().is_empty() == quiet;
+        assert!(rt; run.status == Some(0) && is_said && run.out().is_empty(), "{}", run.err());
+    }
+}
+
 /// Other files that are to be installed, at which paths, the status, and what is said.
 const OTHERS: &[(&[u8], &str, Option<u8>, &str)] = &[
     (

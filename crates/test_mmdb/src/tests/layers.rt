@@ -470,3 +470,47 @@ fn texts_that_were_read_before(rt: HostRuntime) {
         assert!(rt; is_written, "{:?}", text.1);
     }
 }
+
+/// How a row of one record that can't be read is named, of one database and of two, in rows and in objects.
+#[rattlefmt::skip]
+const UNREAD: &[(&[&str], &str)] = &[
+    (&["enrich", "here.mmdb", "--field", "c"], "mmdb: row 10: invalid database"),
+    (&["enrich", "here.mmdb", "new.mmdb", "--field", "c"], "mmdb: row 10: here.mmdb: invalid database"),
+    (&["enrich", "here.mmdb", "--json", "i", "--field", "c"], "mmdb: row 10: invalid database"),
+    (&["enrich", "here.mmdb", "new.mmdb", "--json", "i", "--field", "c"], "mmdb: row 10: here.mmdb: invalid database"),
+];
+
+// Ten rows are named, also where they have one record that can't be read.
+#[test]
+fn rows_of_one_unread_record(rt: HostRuntime) {
+    let old = file_with(rt.alloc(), &OWN);
+    let newer = file_with(rt.alloc(), &CITY);
+    let files = two_files(old.as_slice(), newer.as_slice());
+    for (words, last) in UNREAD {
+        let line = if words.contains(&"--json") { "{\"i\":\"200.0.0.1\"}\n" } else { "200.0.0.1\n" };
+        let mut lines = String::new(rt.alloc());
+        for _ in 0..12 {
+            lines.push_str(line).expect(&rt, "memory");
+        }
+        let run = run_over(rt.alloc(), &files, words, lines.as_str(), false);
+        let is_named = run.err().contains(*last) && !run.err().contains("row 11: ");
+        assert_of(&rt, words, &run, is_named && run.err().contains(" 12 with an error") && run.status == 1);
+    }
+}
+
+/// Words, and what is added to a line of JSON by a database that is named twice.
+#[rattlefmt::skip]
+const TWICE: &[(&[&str], &str, &str)] = &[
+    (&["enrich", "here.mmdb", "here.mmdb", "--json", "i"], "{\"i\":\"70.0.0.1\"}\n", "{\"i\":\"70.0.0.1\",\"geo\":{\"c\":\"own\"}}\n"),
+    (&["enrich", "here.mmdb", "here.mmdb", "--field", "c"], "70.0.0.1\n", "70.0.0.1\town\n"),
+];
+
+#[test]
+fn databases_that_are_named_twice(rt: HostRuntime) {
+    let bytes = file_with(rt.alloc(), &OWN);
+    let files = two_files(bytes.as_slice(), &[]);
+    for (words, line, written) in TWICE {
+        let run = run_over(rt.alloc(), &files, words, *line, false);
+        assert_of(&rt, words, &run, run.out() == *written && run.status == 0);
+    }
+}

@@ -163,32 +163,26 @@ add table inet mmdb; add set inet mmdb blocked_ipv4 { type ipv4_addr; flags inte
     ),
     (
         &["--where", "c.i=AT", "--format", "ipset"],
-        "create mmdb_ipv4 hash:net family inet maxelem 4294967295 -exist
-create mmdb_ipv4.new hash:net family inet maxelem 4294967295 -exist
-destroy mmdb_ipv4.new
-create mmdb_ipv4.new hash:net family inet maxelem 4294967295
-create mmdb_ipv6 hash:net family inet6 maxelem 4294967295 -exist
-create mmdb_ipv6.new hash:net family inet6 maxelem 4294967295 -exist
-destroy mmdb_ipv6.new
+        "create mmdb_ipv4.new hash:net family inet maxelem 4294967295
 create mmdb_ipv6.new hash:net family inet6 maxelem 4294967295
 add mmdb_ipv4.new 64.0.0.0/3
-swap mmdb_ipv4.new mmdb_ipv4
-swap mmdb_ipv6.new mmdb_ipv6
-destroy mmdb_ipv4.new
-destroy mmdb_ipv6.new
+create mmdb_ipv4 hash:net family inet maxelem 4294967295 -exist
+create mmdb_ipv6 hash:net family inet6 maxelem 4294967295 -exist
+swap mmdb_ipv4.new \"mmdb_ipv4\"
+swap mmdb_ipv6.new \"mmdb_ipv6\"
+\"destroy\" \"mmdb_ipv4.new\"
+\"destroy\" \"mmdb_ipv6.new\"
 ",
         &[],
     ),
     // a name with `_ipv4.new` behind it has 31 bytes
     (
         &["--where", "c.i=AT", "--format", "ipset", "--ipv4", "--name", "a123456789012345678901"],
-        "create a123456789012345678901_ipv4 hash:net family inet maxelem 4294967295 -exist
-create a123456789012345678901_ipv4.new hash:net family inet maxelem 4294967295 -exist
-destroy a123456789012345678901_ipv4.new
-create a123456789012345678901_ipv4.new hash:net family inet maxelem 4294967295
+        "create a123456789012345678901_ipv4.new hash:net family inet maxelem 4294967295
 add a123456789012345678901_ipv4.new 64.0.0.0/3
-swap a123456789012345678901_ipv4.new a123456789012345678901_ipv4
-destroy a123456789012345678901_ipv4.new
+create a123456789012345678901_ipv4 hash:net family inet maxelem 4294967295 -exist
+swap a123456789012345678901_ipv4.new \"a123456789012345678901_ipv4\"
+\"destroy\" \"a123456789012345678901_ipv4.new\"
 ",
         &[],
     ),
@@ -216,10 +210,7 @@ const OF_DAMAGED: &[Row<'static>] = &[
     ),
     (
         &["--where", "n=7", "--format", "ipset", "--ipv4"],
-        "create mmdb_ipv4 hash:net family inet maxelem 4294967295 -exist
-create mmdb_ipv4.new hash:net family inet maxelem 4294967295 -exist
-destroy mmdb_ipv4.new
-create mmdb_ipv4.new hash:net family inet maxelem 4294967295
+        "create mmdb_ipv4.new hash:net family inet maxelem 4294967295
 add mmdb_ipv4.new 0.0.0.0/3
 add mmdb_ipv4.new 64.0.0.0/3
 add mmdb_ipv4.new 160.0.0.0/3
@@ -441,6 +432,43 @@ const OF_VALUES: &[InputRow<'static>] = &[
         "FR\n",
         "64.0.0.0/3\n",
         &["c.i=@-: no network has 1 of the 1 values: FR"],
+        0,
+    ),
+    // what no network has leaves none out: an empty list is none that lacks values
+    (
+        &["export", "here.mmdb", "--where-not", "c.i=@-", "--format", "pf", "--allow-empty"],
+        "FR\n",
+        "",
+        &["c.i=@-: no network has 1 of the 1 values: FR; --allow-missing goes on without them"],
+        1,
+    ),
+    (
+        &["export", "here.mmdb", "--where-not", "c.i=FR", "--format", "pf", "--allow-empty"],
+        "",
+        "",
+        &["no network has c.i=FR; --allow-missing goes on without it"],
+        1,
+    ),
+    (
+        &["export", "here.mmdb", "--where", "c.i=AT", "--where", "c.i=@-", "--format", "pf", "--allow-empty"],
+        "FR\n",
+        "",
+        &["c.i=@-: no network has 1 of the 1 values: FR; --allow-missing goes on without them"],
+        1,
+    ),
+    (
+        &["export", "here.mmdb", "--where", "c.i=@-", "--format", "pf", "--allow-empty"],
+        "FR\n",
+        "",
+        &["c.i=@-: no network has 1 of the 1 values: FR"],
+        0,
+    ),
+    // within a kind of addresses it may be missing alone
+    (
+        &["export", "here.mmdb", "--where", "c.i=AT", "--where-not", "c.i=FR", "--format", "pf", "--ipv4"],
+        "",
+        "64.0.0.0/3\n",
+        &[],
         0,
     ),
     // without any value there is a list only of what is added
@@ -846,14 +874,12 @@ const OF_ALL: &[(&[u8], &[Row<'static>])] = &[
             (&["--format", "cidr"], "0.0.0.0/0\n", &[]),
             (
                 &["--format", "ipset", "--ipv4"],
-                "create mmdb_ipv4 hash:net family inet maxelem 4294967295 -exist
-create mmdb_ipv4.new hash:net family inet maxelem 4294967295 -exist
-destroy mmdb_ipv4.new
-create mmdb_ipv4.new hash:net family inet maxelem 4294967295
+                "create mmdb_ipv4.new hash:net family inet maxelem 4294967295
 add mmdb_ipv4.new 0.0.0.0/1
 add mmdb_ipv4.new 128.0.0.0/1
-swap mmdb_ipv4.new mmdb_ipv4
-destroy mmdb_ipv4.new
+create mmdb_ipv4 hash:net family inet maxelem 4294967295 -exist
+swap mmdb_ipv4.new \"mmdb_ipv4\"
+\"destroy\" \"mmdb_ipv4.new\"
 ",
                 &[],
             ),
@@ -876,14 +902,12 @@ destroy mmdb_ipv4.new
             (&["--where", "c.i=DE", "--format", "pf", "--ipv4"], "0.0.0.0/0\n", &[]),
             (
                 &["--format", "ipset", "--ipv6"],
-                "create mmdb_ipv6 hash:net family inet6 maxelem 4294967295 -exist
-create mmdb_ipv6.new hash:net family inet6 maxelem 4294967295 -exist
-destroy mmdb_ipv6.new
-create mmdb_ipv6.new hash:net family inet6 maxelem 4294967295
+                "create mmdb_ipv6.new hash:net family inet6 maxelem 4294967295
 add mmdb_ipv6.new ::/1
 add mmdb_ipv6.new 8000::/1
-swap mmdb_ipv6.new mmdb_ipv6
-destroy mmdb_ipv6.new
+create mmdb_ipv6 hash:net family inet6 maxelem 4294967295 -exist
+swap mmdb_ipv6.new \"mmdb_ipv6\"
+\"destroy\" \"mmdb_ipv6.new\"
 ",
                 &[],
             ),

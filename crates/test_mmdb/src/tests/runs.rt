@@ -492,6 +492,17 @@ const NOTES: &[Notes<'static>] = &[
     (&["enrich", "here.mmdb", "--field", "", "--strict", "--quiet"], "200.0.0.1\n1.1.1.1\n", 0, ""),
     (&["enrich", "here.mmdb", "--field", "", "--strict", "--quiet"], "200.0.0.1\nnone\n", 1, ""),
     (&["enrich", "here.mmdb", "--field", "", "--quiet"], "200.0.0.1\nnone\n", 0, ""),
+    (&["enrich", "here.mmdb", "--field", "", "--quiet"], "200.0.0.1\n::1\n", 0, ""),
+    // a field that no record has is a failure with --strict, also where no row had a record, but not where there was no row
+    (
+        &["enrich", "here.mmdb", "--field", "a", "--strict"], "1.1.1.1\n", 1,
+        "mmdb: no record has a\nmmdb: 0 lines with a record, 1 without, 0 without an address, 0 with an error\n",
+    ),
+    (&["enrich", "here.mmdb", "--field", "a", "--strict", "--quiet"], "1.1.1.1\n", 1, "mmdb: no record has a\n"),
+    (&["enrich", "here.mmdb", "--field", "a", "--strict", "--quiet"], "200.0.0.1\n", 1, "mmdb: none of the lines' records has a\n"),
+    (&["enrich", "here.mmdb", "--json", "i", "--field", "a", "--strict", "--quiet"], "{\"i\":\"1.1.1.1\"}\n", 1, "mmdb: no record has a\n"),
+    (&["enrich", "here.mmdb", "--field", "a", "--quiet"], "1.1.1.1\n200.0.0.1\n", 0, ""),
+    (&["enrich", "here.mmdb", "--field", "a", "--strict", "--quiet"], "", 0, ""),
     (&["enrich", "here.mmdb", "--json", "a", "--strict", "--quiet"], "{\"a\":\"200.0.0.1\"}\n[]\n", 1, ""),
     (&["enrich", "here.mmdb", "--json", "a", "--quiet"], "{\"a\":\"200.0.0.1\"}\n[]\n", 0, ""),
     (&["enrich", "here.mmdb", "--json", "a", "--strict", "--quiet"], "{\"a\":\"200.0.0.1\"}\n{\"a\":\"200.0.0.1\",\"geo\":1}\n", 1, ""),
@@ -599,6 +610,25 @@ fn is_of_object(run: &Run, object: &str, message: &str) -> bool {
         has_member(object, run.out())
     };
     is_written && run.err().contains(message)
+}
+
+// Under a header a row gets the cells that it lacks, unless it is too long for them to be counted, which is said.
+#[test]
+fn long_rows_under_a_header(rt: HostRuntime) {
+    let words = ["enrich", "here.mmdb", "--header", "--field", "", "--strict"];
+    for (length, written, said, status) in [
+        (65_000, "x\t\tx\n", "0 with an error\n", 0),
+        (66_000, "x\tx\n", "0 with an error, 1 of more than 65536 bytes, of which no cells are counted, the first in row 2\n", 1),
+    ] {
+        let mut lines = String::from_str(rt.alloc(), "a\tb\tc\n200.0.0.1\t").expect(&rt, "a text");
+        for _ in 0..length {
+            lines.push('x').expect(&rt, "memory");
+        }
+        lines.push('\n').expect(&rt, "memory");
+        let run = run_of(rt.alloc(), BASE_FILE, &words, lines.as_str());
+        let is_said = run.err().ends_with(said) && run.out().ends_with(written);
+        assert_of(&rt, &words, &run, is_said && run.status == status);
+    }
 }
 
 #[test]
