@@ -348,7 +348,10 @@ impl<'a> Warnings<'a> {
             databases,
             console,
         );
-        self.has_warned |= records.wider > 0 || records.long > 0 || is_unknown || self.has_nowhere();
+        self.has_warned |= records.wider > 0
+            || records.long > 0
+            || is_unknown
+            || self.has_nowhere();
     }
 
     /// Says how the rows fared, and answers the status: `unasked` of those with an error have an address that no database can

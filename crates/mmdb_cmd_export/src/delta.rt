@@ -43,7 +43,9 @@ impl ListChanges {
 
     // Whether the new list has no blocks of some kinds.
     fn is_empty(&self, kinds: Kinds) -> bool {
-        !KINDS.iter().any(|kind| kinds.has(*kind) && self.of(*kind).has_new)
+        !KINDS
+            .iter()
+            .any(|kind| kinds.has(*kind) && self.of(*kind).has_new)
     }
 
     // Whether nothing changes.

@@ -186,13 +186,20 @@ fn a_dry_run_changes_nothing(rt: HostRuntime) {
 fn a_quiet_dry_run_says_nothing(rt: HostRuntime) {
     let alloc = rt.alloc();
     let rows = b"{\"network\":\"1.0.0.0/9\",\"record\":1}\n";
-    for (quiet, said) in [(false, "mmdb: out.mmdb: new.mmdb would be installed, "), (true, "")] {
+    for (quiet, said) in [
+        (false, "mmdb: out.mmdb: new.mmdb would be installed, "),
+        (true, ""),
+    ] {
         let disk = disk_with(&rt, alloc, &[], rows);
         let mut arguments = arguments("out.mmdb", None, true);
         arguments.quiet = quiet;
         let run = install_on(alloc, &disk, &arguments);
         let is_said = run.err().starts_with(said) && run.err().is_empty() == quiet;
-        assert!(rt; run.status == Some(0) && is_said && run.out().is_empty(), "{}", run.err());
+        assert!(rt;
+            run.status == Some(0) && is_said && run.out().is_empty(),
+            "{}",
+            run.err()
+        );
     }
 }
 

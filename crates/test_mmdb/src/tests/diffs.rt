@@ -422,12 +422,30 @@ fn lists_of_one_kind_with_blocks_of_the_other(rt: HostRuntime) {
     let [of_ipv4, of_ipv6] = ["9.9.9.9\n", "2000::/3\n"];
     for (lines, written, status) in [
         (of_ipv4, "", 1),
-        (of_ipv6, "del mmdb_ipv6 ::/1 -exist\ndel mmdb_ipv6 8000::/1 -exist\nadd mmdb_ipv6 2000::/3 -exist\n", 0),
+        (
+            of_ipv6,
+            "del mmdb_ipv6 ::/1 -exist\ndel mmdb_ipv6 8000::/1 -exist\nadd mmdb_ipv6 2000::/3 -exist\n",
+            0,
+        ),
     ] {
-        let words = ["diff", "here.mmdb", "new.mmdb", "--ipv6", "--format", "ipset", "--also", "-"];
+        let words = [
+            "diff",
+            "here.mmdb",
+            "new.mmdb",
+            "--ipv6",
+            "--format",
+            "ipset",
+            "--also",
+            "-",
+        ];
         let run = run_over(rt.alloc(), &files, &words, lines, false);
         let is_said = status == 0 || run.err().contains("no network is chosen; --allow-empty");
-        assert_of(&rt, &words, &run, is_said && run.status == status && run.out() == written);
+        assert_of(
+            &rt,
+            &words,
+            &run,
+            is_said && run.status == status && run.out() == written,
+        );
     }
 }
 

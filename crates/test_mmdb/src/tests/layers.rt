@@ -487,14 +487,23 @@ fn rows_of_one_unread_record(rt: HostRuntime) {
     let newer = file_with(rt.alloc(), &CITY);
     let files = two_files(old.as_slice(), newer.as_slice());
     for (words, last) in UNREAD {
-        let line = if words.contains(&"--json") { "{\"i\":\"200.0.0.1\"}\n" } else { "200.0.0.1\n" };
+        let line = if words.contains(&"--json") {
+            "{\"i\":\"200.0.0.1\"}\n"
+        } else {
+            "200.0.0.1\n"
+        };
         let mut lines = String::new(rt.alloc());
         for _ in 0..12 {
             lines.push_str(line).expect(&rt, "memory");
         }
         let run = run_over(rt.alloc(), &files, words, lines.as_str(), false);
         let is_named = run.err().contains(*last) && !run.err().contains("row 11: ");
-        assert_of(&rt, words, &run, is_named && run.err().contains(" 12 with an error") && run.status == 1);
+        assert_of(
+            &rt,
+            words,
+            &run,
+            is_named && run.err().contains(" 12 with an error") && run.status == 1,
+        );
     }
 }
 

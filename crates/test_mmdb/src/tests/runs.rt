@@ -618,7 +618,12 @@ fn long_rows_under_a_header(rt: HostRuntime) {
     let words = ["enrich", "here.mmdb", "--header", "--field", "", "--strict"];
     for (length, written, said, status) in [
         (65_000, "x\t\tx\n", "0 with an error\n", 0),
-        (66_000, "x\tx\n", "0 with an error, 1 of more than 65536 bytes, of which no cells are counted, the first in row 2\n", 1),
+        (
+            66_000,
+            "x\tx\n",
+            "0 with an error, 1 of more than 65536 bytes, of which no cells are counted, the first in row 2\n",
+            1,
+        ),
     ] {
         let mut lines = String::from_str(rt.alloc(), "a\tb\tc\n200.0.0.1\t").expect(&rt, "a text");
         for _ in 0..length {
