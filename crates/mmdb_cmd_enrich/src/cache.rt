@@ -39,6 +39,15 @@ pub struct Bucket {
     older: Slot,
 }
 
+/// Whether cells are kept of records that have a number.
+#[derive(Clone, Copy)]
+pub(crate) enum Keeping {
+    Never,
+    /// Where as many are found again.
+    IfWorth,
+    Always,
+}
+
 /// What is kept of a record.
 #[derive(Clone, Copy)]
 pub(crate) struct KeptRecord<'c> {
@@ -168,9 +177,8 @@ impl AddedCache {
         })
     }
 
-    /// Keeps the cells of a record in the stead of the older one at its bucket, unless they are many or there is no
-    /// memory.
-    pub(crate) fn keep(&mut self, offset: usize, cells: &[u8], outcome: Outcome)
+    // Keeps the cells of a record in the stead of the older one at its bucket, unless they are many or there is no memory.
+    fn put(&mut self, offset: usize, cells: &[u8], outcome: Outcome)
         ensures { (wanted : Wanted) → AreKept wanted self.old
             → AddsOf wanted offset cells.now outcome → AreKept wanted self.new }
     {
@@ -193,6 +201,16 @@ impl AddedCache {
         });
     }
 
+    /// Keeps the cells of a record, if that is wanted, unless they are many or there is no memory.
+    pub(crate) fn keep(&mut self, offset: usize, cells: &[u8], outcome: Outcome, is_wanted: bool)
+        ensures { (wanted : Wanted) → AreKept wanted self.old
+            → AddsOf wanted offset cells.now outcome → AreKept wanted self.new }
+    {
+        if is_wanted {
+            self.put(offset, cells, outcome);
+        }
+    }
+
     /// Notes that the cells of records that have a number were found.
     #[inline(always)]
     pub(crate) fn note_found(&mut self)
@@ -201,21 +219,25 @@ impl AddedCache {
         self.worth.find();
     }
 
-    // Whether it is worth to keep cells, which it is where they are dear.
+    // Whether cells are kept.
     #[inline(always)]
-    fn is_worth(&mut self, are_dear: bool) -> bool
+    fn keeps(&mut self, keeping: Keeping) -> bool
         ensures { self.new ≡ self.old }
     {
-        are_dear || self.worth.keeps()
+        match keeping {
+            Keeping::Never => false,
+            Keeping::IfWorth => self.worth.keeps(),
+            Keeping::Always => true,
+        }
     }
 
-    /// Keeps the cells of records that have a number, if it takes long to make them or it is worth it.
+    /// Keeps the cells of records that have a number, as it is asked.
     pub(crate) fn keep_numbered(
         &mut self,
         number: Option<usize>,
         cells: &[u8],
         outcome: Outcome,
-        are_dear: bool,
+        keeping: Keeping,
     )
         ensures { (wanted : Wanted) → AreKept wanted self.old
             → IfSome number (λ n. AddsOf wanted n cells.now outcome) → AreKept wanted self.new }
@@ -223,8 +245,8 @@ impl AddedCache {
         let Some(number) = number else {
             return;
         };
-        if self.is_worth(are_dear) {
-            self.keep(number, cells, outcome);
+        if self.keeps(keeping) {
+            self.put(number, cells, outcome);
         }
     }
 }

@@ -133,9 +133,8 @@ impl<'a, 'f, S: AsSlice<u8> + Drop> Enrichment<'a, 'f, S> {
         let paths = self.paths.as_slice();
         let are_read = put_cells(self.alloc, self.rows, found, &mut (), paths, out)?;
         let outcome = outcome_of(are_read);
-        if are_read || notes.have_all_failures() {
-            cache.keep(offset, &out.as_slice()[before..], outcome);
-        }
+        let is_said = notes.is_said(are_read);
+        cache.keep(offset, &out.as_slice()[before..], outcome, is_said);
         self.note(found, offset, are_read, notes);
         Ok(outcome)
     }

@@ -210,9 +210,7 @@ impl<'a, 'f, S: AsSlice<u8> + Drop> JsonEnrichment<'a, 'f, S> {
         let member = member_of(self.alloc, found, &mut (), self.name, fields)?;
         let kept = kept_of(&member);
         let is_read = kept.outcome == Outcome::Found;
-        if is_read || notes.have_all_failures() {
-            cache.keep(offset, kept.cells, kept.outcome);
-        }
+        cache.keep(offset, kept.cells, kept.outcome, notes.is_said(is_read));
         self.note(found, offset, is_read, notes);
         put_member(line, kept, out)
     }

@@ -140,10 +140,8 @@ impl<'a, 'f, S: AsSlice<u8> + Drop> LayeredEnrichment<'a, 'f, S> {
         let paths = self.paths.as_slice();
         let are_read = put_cells(self.alloc, self.rows, layers, reads, paths, out)?;
         let outcome = outcome_of_all(layers.has_record(), are_read);
-        let are_dear = notes.are_dear(paths.len(), are_read, reads.unkept == unkept);
-        if are_read || notes.have_all_failures() {
-            cache.keep_numbered(layers.key, &out.as_slice()[before..], outcome, are_dear);
-        }
+        let keeping = notes.keeping(paths.len(), are_read, reads.unkept == unkept);
+        cache.keep_numbered(layers.key, &out.as_slice()[before..], outcome, keeping);
         self.note(layers, are_read, notes);
         Ok(outcome)
     }

@@ -136,10 +136,8 @@ impl<'a, 'f, S: AsSlice<u8> + Drop> LayeredJsonEnrichment<'a, 'f, S> {
         let member = member_of(self.alloc, layers, reads, self.name, fields)?;
         let kept = kept_of(&member);
         let are_read = kept.outcome == Outcome::Found;
-        let are_dear = notes.are_dear(fields.len(), are_read, reads.unkept == unkept);
-        if are_read || notes.have_all_failures() {
-            cache.keep_numbered(layers.key, kept.cells, kept.outcome, are_dear);
-        }
+        let keeping = notes.keeping(fields.len(), are_read, reads.unkept == unkept);
+        cache.keep_numbered(layers.key, kept.cells, kept.outcome, keeping);
         self.note(layers, are_read, notes);
         put_member(line, kept, out)
     }

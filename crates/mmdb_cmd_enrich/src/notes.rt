@@ -1,5 +1,6 @@
 //! What is noted of the records that are read, so that it can be said at the end what was amiss.
 use crate::asked::asked_of;
+use crate::cache::Keeping;
 use crate::layers::{Layers, can_ask_any, offset_of};
 use mmdb_found::value_along;
 use mmdb_layout::ReadAlong;
@@ -110,9 +111,9 @@ impl Notes {
         }
     }
 
-    /// Whether it is noted of no row more why its record can't be read.
+    // Whether it is noted of no row more why its record can't be read.
     #[inline(always)]
-    pub(crate) fn have_all_failures(&self) -> bool {
+    fn have_all_failures(&self) -> bool {
         self.failures.len() >= MOST_FAILURES
     }
 
@@ -185,11 +186,23 @@ impl Notes {
         self.records.len() >= MOST_RECORDS && self.has_met_all(fields)
     }
 
-    /// Whether cells of so many fields take long to make: where they are many, one of them was not read or a value not kept, or
-    /// the next records are noted too.
+    /// Whether rows with records that were read so are named no more.
     #[inline(always)]
-    pub(crate) fn are_dear(&self, fields: usize, are_read: bool, are_kept: bool) -> bool {
-        fields > FEW || !are_read || !are_kept || !self.are_full(fields)
+    pub(crate) fn is_said(&self, are_read: bool) -> bool {
+        are_read || self.have_all_failures()
+    }
+
+    /// Whether cells of so many fields are kept: not where rows with such records are still named, and always where it takes long
+    /// to make them: where they are many, one of them was not read or a value not kept, or the next records are noted too.
+    #[inline(always)]
+    pub(crate) fn keeping(&self, fields: usize, are_read: bool, are_kept: bool) -> Keeping {
+        if !self.is_said(are_read) {
+            Keeping::Never
+        } else if fields > FEW || !are_read || !are_kept || !self.are_full(fields) {
+            Keeping::Always
+        } else {
+            Keeping::IfWorth
+        }
     }
 
     // Notes that a record had a value at a field.

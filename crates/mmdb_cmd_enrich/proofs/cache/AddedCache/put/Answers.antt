@@ -1,7 +1,7 @@
 use Rattle.std.proofs.Common.{rules, ◌≡◌, ◌%◌, ◌<◌, Some, length, slice_index_or, refl, subst, sym}
 use Rattle.mmdb_cmd_enrich.specs.Kept.{IsKept, IsKeptAt, AreKept}
 use Rattle.mmdb_cmd_enrich.proofs.KeptLaws.{one_kept, place_set}
-use Rattle.mmdb_cmd_enrich.proofs.cache.AddedCache.keep.Goals as goal
+use Rattle.mmdb_cmd_enrich.proofs.cache.AddedCache.put.Goals as goal
 
 pub returns : goal.returns
 returns c = λ wanted kept add.
