@@ -2,6 +2,7 @@
 //! into rows or into sets of addresses.
 #![tactic(auto)]
 
+mod address_blocks;
 mod addresses;
 mod answer;
 mod choice;
@@ -15,6 +16,7 @@ mod template;
 mod values;
 mod walk;
 
+pub use address_blocks::{AddressBlocks, blocks, list_all};
 pub use addresses::{Addresses, gather, gather_all};
 pub use answer::Answer;
 pub use choice::{Choice, Conditions};
