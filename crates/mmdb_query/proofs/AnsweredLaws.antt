@@ -1,9 +1,9 @@
 -- Addresses whose record meets conditions.
-use Rattle.std.proofs.Common.{◌≡◌, ◌⊎◌, ◌↔◌, inl, inr, ℕ, zero, suc, ◌+◌, ◌-◌, ◌/◌, ◌^◌, ◌<◌, ◌≤◌, not, ◌||◌, ◌&&◌, List, [], ◌∷◌, ◌++◌, map, Option, Some, None, Bool, true, false, Result, Ok, Err, IfOk, if◌then◌else◌, refl, sym, ap, ◌∙◌, subst, append_assoc, arith}
+use Rattle.std.proofs.Common.{◌≡◌, ◌⊎◌, ◌↔◌, inl, inr, ℕ, zero, suc, ◌-◌, ◌/◌, ◌^◌, ◌<◌, not, ◌||◌, ◌&&◌, List, [], ◌∷◌, ◌++◌, map, Option, Some, None, Bool, true, false, Result, Ok, Err, IfOk, if◌then◌else◌, refl, sym, ap, ◌∙◌, subst, append_assoc, arith}
 use Rattle.std.specs.List.{Contains}
 use Rattle.std.proofs.lemmas.Bool.{eqb-true}
 use Rattle.std.proofs.lemmas.List.{append_cancel_left}
-use Rattle.std.specs.Net.Addr.{is_ipv4, ipv4_bits, ipv6_bits}
+use Rattle.std.specs.Net.Addr.{is_ipv4, ipv4_bits}
 use Rattle.std.specs.declared.net.ip_addr.IpAddr.{IpAddr}
 use Rattle.std.specs.declared.net.ip_addr.IpAddr.TheVariants.{V4, V6}
 use Rattle.mmdb_net.specs.Bits.{bits_of, zero_bits, IsPrefix}
@@ -25,7 +25,7 @@ use Rattle.mmdb_query.specs.Had.{Had, shown_bits}
 use Rattle.mmdb_query.specs.Walks.{Item, item_listed}
 use Rattle.mmdb_query.specs.Walks.Item.{Found, Unread}
 use Rattle.mmdb_query.specs.Taking.{Asked}
-use Rattle.mmdb_query.specs.Sets.{BeginsWith, Has, LiesIn, IsFoundIn, LiesInChosen, IsGathered}
+use Rattle.mmdb_query.specs.Sets.{BeginsWith, LiesIn, IsFoundIn, LiesInChosen, IsGathered}
 use Rattle.mmdb_query.specs.declared.addresses.Addresses.{Addresses}
 use Rattle.mmdb_query.specs.Answered.{number_of_ip, IsOfWidth, HasAddress, HasRecord, IsAnswered, HasOnlyMet, HasAllMet}
 
@@ -154,13 +154,16 @@ module _ {X : Type 0} (a : Asked X) (db : Database) (options : WithinOptions) (l
       let on : IsPrefix m.leaf (address_bits db address) = (leaf_on db m.leaf address small).0 begins in
       let agrees = listed_agrees db options [] m.leaf m.finding address is_listed can on in
       let (place, is) = record_of_listed db options m.leaf offset default (subst (IsListedWith db options m.leaf) finding is_listed.found) in
-      let at_place : m.finding ≡ Data place = finding ∙ ap outcome_at is in
-      (place, record {
-        leaf = m.leaf;
-        answers = subst (AgreesWith db address m.leaf) at_place agrees;
-        clear = clear_of db options m.leaf m.finding default is_listed;
-        shown = shown;
-      }, subst (λ (o : Option ℕ). a.says (o ∷ []) true) is (subst (λ (h : Had). a.says h.offsets true) same says))
+      let at_place : m.finding ≡ Data place = finding ∙ ap outcome_at is in (
+        place,
+        record {
+          leaf = m.leaf;
+          answers = subst (AgreesWith db address m.leaf) at_place agrees;
+          clear = clear_of db options m.leaf m.finding default is_listed;
+          shown = shown;
+        },
+        subst (λ (o : Option ℕ). a.says (o ∷ []) true) is (subst (λ (h : Had). a.says h.offsets true) same says),
+      )
 
   lies_in : IsOfWidth address → (leaf : List Bool) (offset : ℕ) → is_leaf_shown_as_ipv4 db leaf ≡ is_ipv4 address → IsPrefix leaf (address_bits db address)
       → LiesIn (is_ipv4 address) (number_of_ip address) (had_at db leaf offset)

@@ -1,5 +1,5 @@
 -- Blocks of the addresses of both kinds.
-use Rattle.std.proofs.Common.{◌↔◌, ℕ, Bool, true, false}
+use Rattle.std.proofs.Common.{◌↔◌, ℕ, true, false}
 use Rattle.mmdb_blocks.specs.Blocks.{IsIn}
 use Rattle.mmdb_blocks.specs.Ranges.{IsListed}
 use Rattle.mmdb_query.specs.Lists.{ListsAddresses}

@@ -2,7 +2,6 @@
 use Rattle.std.specs.Prelude.{◌≡◌, ◌⊎◌, ◌↔◌, ◌<◌, ◌^◌, ℕ, List, [], ◌∷◌, Option, Bool, true, false, if◌then◌else◌}
 use Rattle.std.specs.Net.Addr.{is_ipv4}
 use Rattle.mmdb_blocks.specs.Ranges.{IsAmong}
-use Rattle.mmdb_blocks.specs.declared.ranges.BlockRange.{BlockRange}
 use Rattle.mmdb_net.specs.Bits.{bits_of, IsPrefix}
 use Rattle.mmdb_net.specs.Network.{ip_of}
 use Rattle.mmdb_net.specs.declared.network.IpNetwork.{IpNetwork}
