@@ -27,7 +27,7 @@ use Rattle.mmdb_query.specs.Walks.Item.{Found, Unread}
 use Rattle.mmdb_query.specs.Taking.{Asked}
 use Rattle.mmdb_query.specs.Sets.{BeginsWith, LiesIn, IsFoundIn, LiesInChosen, IsGathered}
 use Rattle.mmdb_query.specs.declared.addresses.Addresses.{Addresses}
-use Rattle.mmdb_query.specs.Answered.{number_of_ip, IsOfWidth, HasAddress, HasRecord, IsAnswered, HasOnlyMet, HasAllMet}
+use Rattle.mmdb_query.specs.Answered.{number_of_ip, IsOfWidth, HasAddress, HasRecord, IsAnswered, HasOnlyMet, HasAllMet, SetsAreExact}
 
 -- ---- an address begins with a leaf's bits
 
@@ -201,3 +201,15 @@ module _ {E X : Type 0} (asked : Database → Asked X) (comes : List Item → Ty
       let left = all_answered (asked walked) walked options list address comes found.0 found.1 offset default listing small gathered (are gathered.items gathered.come)
       (subst (λ (d : Database). HasRecord d address offset) (sym same) is) in
       unsaid_left (asked db) (Some offset ∷ []) (put (Some offset ∷ [])) (subst (λ (d : Database). HasAddress found.0 address ⊎ IsLeftOutBy (asked d) (Some offset ∷ [])) same left)
+
+-- ---- where conditions say one thing
+
+pub sets_are_exact : {C : Type 0} (says : C → List (List ℕ) → List (Option ℕ) → Bool → Type 0) (unsaid : C → List (List ℕ) → List (Option ℕ) → Type 0) → SetsAreExact says unsaid
+sets_are_exact says unsaid c s db set one only all address small = (
+  (λ has. only address small has),
+  (λ (offset, record_of, meets). elim (all address offset small record_of) [
+    | inl has ↦ has
+    | inr (inl unmet) ↦ absurd ((one (Some offset ∷ []) meets).0 unmet)
+    | inr (inr cant) ↦ absurd ((one (Some offset ∷ []) meets).1 cant)
+  ]),
+)

@@ -8,6 +8,7 @@ mod answer;
 mod choice;
 mod each;
 mod error;
+pub mod laws;
 mod numbered;
 mod outline;
 mod rows;
