@@ -131,15 +131,15 @@ listed_of db options address leaf offset default at clear = record {
 
 -- ---- addresses in networks that are chosen
 
--- it is not chosen, or it can't be read whether it is
-abbrev IsLeftOutBy : {X : Type 0} → Asked X → List (Option ℕ) → Type 0
-IsLeftOutBy a offsets = a.says offsets false ⊎ (a.unsaid offsets ⊎ (a.says offsets true × a.unput offsets))
+-- it is not chosen, or it can't be read whether it is, and is counted
+abbrev IsLeftOutBy : {X : Type 0} → Asked X → ℕ → List (Option ℕ) → Type 0
+IsLeftOutBy a faults offsets = a.says offsets false ⊎ ((a.unsaid offsets ⊎ (a.says offsets true × a.unput offsets)) × (0 < faults))
 
-unsaid_left : {P X : Type 0} (a : Asked X) (offsets : List (Option ℕ)) → ¬ (a.unput offsets) → P ⊎ IsLeftOutBy a offsets → P ⊎ (a.says offsets false ⊎ a.unsaid offsets)
-unsaid_left a offsets put (inl there) = inl there
-unsaid_left a offsets put (inr (inl unmet)) = inr (inl unmet)
-unsaid_left a offsets put (inr (inr (inl cant))) = inr (inr cant)
-unsaid_left a offsets put (inr (inr (inr (says, cant)))) = absurd (put cant)
+unsaid_left : {P X : Type 0} (a : Asked X) (faults : ℕ) (offsets : List (Option ℕ)) → ¬ (a.unput offsets) → P ⊎ IsLeftOutBy a faults offsets → P ⊎ (a.says offsets false ⊎ (a.unsaid offsets × (0 < faults)))
+unsaid_left a faults offsets put (inl there) = inl there
+unsaid_left a faults offsets put (inr (inl unmet)) = inr (inl unmet)
+unsaid_left a faults offsets put (inr (inr (inl cant, counted))) = inr (inr (cant, counted))
+unsaid_left a faults offsets put (inr (inr (inr (says, cant), counted))) = absurd (put cant)
 
 module _ {X : Type 0} (a : Asked X) (db : Database) (options : WithinOptions) (list : List Listed) (address : IpAddr) where
   only_answered : options ≡ default_options → IsListing db options [] list → IsOfWidth address → LiesInChosen a (is_ipv4 address) (number_of_ip address) (map (item_listed db) (items_of db list))
@@ -172,7 +172,7 @@ module _ {X : Type 0} (a : Asked X) (db : Database) (options : WithinOptions) (l
 
   all_answered : (comes : List Item → Type 0) (set : Addresses) (faults offset : ℕ) → options ≡ default_options → IsListing db options [] list → IsOfWidth address
       → (gathered : IsGathered comes a set faults) → gathered.items ≡ map (item_listed db) (items_of db list) → HasRecord db address offset
-      → HasAddress set address ⊎ IsLeftOutBy a (Some offset ∷ [])
+      → HasAddress set address ⊎ IsLeftOutBy a faults (Some offset ∷ [])
   all_answered comes set faults offset default listing small gathered are is =
       let had = had_at db is.leaf offset in
       let there = (listing.exact (listed_with is.leaf (Data offset))).1 (listed_of db options address is.leaf offset default is.answers is.clear) in
@@ -195,21 +195,21 @@ module _ {E X : Type 0} (asked : Database → Asked X) (comes : List Item → Ty
   pub has_all : (r : Result (Addresses × ℕ) E) → walked ≡ db → options ≡ default_options → IsListing walked options [] list
       → ((items : List Item) → comes items → items ≡ map (item_listed walked) (items_of walked list))
       → ((offsets : List (Option ℕ)) → ¬ ((asked db).unput offsets))
-      → IfOk r (λ found. IsGathered comes (asked walked) found.0 found.1) → IfOk r (λ found. HasAllMet db (asked db).says (asked db).unsaid found.0)
+      → IfOk r (λ found. IsGathered comes (asked walked) found.0 found.1) → IfOk r (λ found. HasAllMet db (asked db).says (asked db).unsaid found.0 found.1)
   has_all (Err e) same default listing are put gathered = tt
   has_all (Ok found) same default listing are put gathered = λ address offset small is.
       let left = all_answered (asked walked) walked options list address comes found.0 found.1 offset default listing small gathered (are gathered.items gathered.come)
       (subst (λ (d : Database). HasRecord d address offset) (sym same) is) in
-      unsaid_left (asked db) (Some offset ∷ []) (put (Some offset ∷ [])) (subst (λ (d : Database). HasAddress found.0 address ⊎ IsLeftOutBy (asked d) (Some offset ∷ [])) same left)
+      unsaid_left (asked db) found.1 (Some offset ∷ []) (put (Some offset ∷ [])) (subst (λ (d : Database). HasAddress found.0 address ⊎ IsLeftOutBy (asked d) found.1 (Some offset ∷ [])) same left)
 
 -- ---- where conditions say one thing
 
 pub sets_are_exact : {C : Type 0} (says : C → List (List ℕ) → List (Option ℕ) → Bool → Type 0) (unsaid : C → List (List ℕ) → List (Option ℕ) → Type 0) → SetsAreExact says unsaid
-sets_are_exact says unsaid c s db set one only all address small = (
+sets_are_exact says unsaid c s db set unread one only all address small = (
   (λ has. only address small has),
   (λ (offset, record_of, meets). elim (all address offset small record_of) [
     | inl has ↦ has
     | inr (inl unmet) ↦ absurd ((one (Some offset ∷ []) meets).0 unmet)
-    | inr (inr cant) ↦ absurd ((one (Some offset ∷ []) meets).1 cant)
+    | inr (inr cant) ↦ absurd ((one (Some offset ∷ []) meets).1 cant.0)
   ]),
 )

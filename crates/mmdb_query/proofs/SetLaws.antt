@@ -170,19 +170,23 @@ module _ {X : Type 0} (a : Asked X) (as_ipv4 : Bool) (address : ℕ) where
         | inr later ↦ chosen_later item items (only_picked items rest others left later)
       ]
 
-  picked_first : (had first : Had) (put : List Had) (fault : ℕ) → had ≡ first → IsPicked a (Found first) put fault → LiesIn as_ipv4 address had → LiesInOne as_ipv4 address put ⊎ IsLeftOut a had
+  more_left : (some faults : ℕ) (had : Had) → some ≤ faults → IsLeftOut a some had → IsLeftOut a faults had
+  more_left some faults had up (inl unmet) = inl unmet
+  more_left some faults had up (inr (cant, counted)) = inr (cant, omega (arith, up, counted))
+
+  picked_first : (had first : Had) (put : List Had) (fault : ℕ) → had ≡ first → IsPicked a (Found first) put fault → LiesIn as_ipv4 address had → LiesInOne as_ipv4 address put ⊎ IsLeftOut a fault had
   picked_first had first put fault same (inl (inl (says, is), none)) lies = inl (subst (LiesInOne as_ipv4 address) (sym is) (inl (subst (LiesIn as_ipv4 address) same lies)))
   picked_first had first put fault same (inl (inr (says, is), none)) lies = inr (inl (subst (λ (h : Had). a.says h.offsets false) (sym same) says))
-  picked_first had first put fault same (inr (cant, is, one)) lies = inr (inr (subst (λ (h : Had). CantBePut a h) (sym same) cant))
+  picked_first had first put fault same (inr (cant, is, one)) lies = inr (inr (subst (λ (h : Had). CantBePut a h) (sym same) cant, omega (arith, one)))
 
-  pub all_picked : (items : List Item) (had : Had) (put : List Had) (faults : ℕ) → ArePicked a items put faults → IsFoundIn had items → LiesIn as_ipv4 address had → LiesInOne as_ipv4 address put ⊎ IsLeftOut a had
+  pub all_picked : (items : List Item) (had : Had) (put : List Had) (faults : ℕ) → ArePicked a items put faults → IsFoundIn had items → LiesIn as_ipv4 address had → LiesInOne as_ipv4 address put ⊎ IsLeftOut a faults had
   all_picked [] had put faults picked none lies = absurd none
   all_picked (Unread ∷ items) had put faults (first, rest, fault, others, one, left, is, sum) found lies =
-      either (λ there. subst (LiesInOne as_ipv4 address) (sym is) (lies_later as_ipv4 address first rest there)) (λ out. out) (all_picked items had rest others left found lies)
+      either (λ there. subst (LiesInOne as_ipv4 address) (sym is) (lies_later as_ipv4 address first rest there)) (more_left others faults had (omega (arith, sum))) (all_picked items had rest others left found lies)
   all_picked (Found next ∷ items) had put faults (first, rest, fault, others, one, left, is, sum) (inl same) lies =
-      either (λ there. subst (LiesInOne as_ipv4 address) (sym is) (lies_first as_ipv4 address first rest there)) (λ out. out) (picked_first had next first fault same one lies)
+      either (λ there. subst (LiesInOne as_ipv4 address) (sym is) (lies_first as_ipv4 address first rest there)) (more_left fault faults had (omega (arith, sum))) (picked_first had next first fault same one lies)
   all_picked (Found next ∷ items) had put faults (first, rest, fault, others, one, left, is, sum) (inr found) lies =
-      either (λ there. subst (LiesInOne as_ipv4 address) (sym is) (lies_later as_ipv4 address first rest there)) (λ out. out) (all_picked items had rest others left found lies)
+      either (λ there. subst (LiesInOne as_ipv4 address) (sym is) (lies_later as_ipv4 address first rest there)) (more_left others faults had (omega (arith, sum))) (all_picked items had rest others left found lies)
 
 pub gathered : (comes : List Item → Type 0) (says : List (Option ℕ) → Bool → Type 0) (unsaid : List (Option ℕ) → Type 0) (s : List (List ℕ)) (old new : Addresses) (before after : Option (List ℕ)) (faults : ℕ)
     → old.ipv4 ≡ [] → old.ipv6 ≡ []

@@ -20,10 +20,11 @@ ListsAddresses chosen also except blocks = (as_ipv4 : Bool) (address : ℕ)
 abbrev pub AreFewest : AddressBlocks → Type 0
 AreFewest blocks = IsJoined blocks.ipv4.items blocks.ipv4.items × IsJoined blocks.ipv6.items blocks.ipv6.items
 
--- Those are chosen of which a lookup finds a record that meets conditions: no others, and all, unless that can't be read.
+-- Those are chosen of which a lookup finds a record that meets conditions: no others, and all, unless that can't be read, and is
+-- counted.
 pub record ListsMet (db : Database) (says : List (Option ℕ) → Bool → Type 0) (unsaid : List (Option ℕ) → Type 0)
-    (also except : Addresses) (blocks : AddressBlocks) : Type 0 where
+    (also except : Addresses) (blocks : AddressBlocks) (unread : ℕ) : Type 0 where
   pub chosen : Addresses
   pub only : HasOnlyMet db says chosen
-  pub all : HasAllMet db says unsaid chosen
+  pub all : HasAllMet db says unsaid chosen unread
   pub exact : ListsAddresses chosen also except blocks

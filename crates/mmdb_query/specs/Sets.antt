@@ -55,9 +55,9 @@ IsFoundIn had (Found first ∷ items) = (had ≡ first) ⊎ IsFoundIn had items
 abbrev pub LiesInChosen : {X : Type 0} → Asked X → Bool → ℕ → List Item → Type 0
 LiesInChosen a as_ipv4 address items = (had : Had) × IsFoundIn had items × a.says had.offsets true × LiesIn as_ipv4 address had
 
--- a network is not chosen, or it can't be read whether it is
-abbrev pub IsLeftOut : {X : Type 0} → Asked X → Had → Type 0
-IsLeftOut a had = a.says had.offsets false ⊎ CantBePut a had
+-- a network is not chosen, or it can't be read whether it is, and is counted
+abbrev pub IsLeftOut : {X : Type 0} → Asked X → ℕ → Had → Type 0
+IsLeftOut a faults had = a.says had.offsets false ⊎ (CantBePut a had × (0 < faults))
 
 -- A set has exactly the addresses of the networks that are chosen of those that come, and so many can't be read.
 pub record IsGathered {X : Type 0} (comes : List Item → Type 0) (a : Asked X) (set : Addresses) (faults : ℕ) : Type 0 where
@@ -67,4 +67,4 @@ pub record IsGathered {X : Type 0} (comes : List Item → Type 0) (a : Asked X) 
   pub picked : ArePicked a items put faults
   pub exact : (as_ipv4 : Bool) (address : ℕ) → address < 2 ^ 128 → Has set as_ipv4 address ↔ LiesInOne as_ipv4 address put
   pub only : (as_ipv4 : Bool) (address : ℕ) → address < 2 ^ 128 → Has set as_ipv4 address → LiesInChosen a as_ipv4 address items
-  pub all : (had : Had) (as_ipv4 : Bool) (address : ℕ) → address < 2 ^ 128 → IsFoundIn had items → LiesIn as_ipv4 address had → Has set as_ipv4 address ⊎ IsLeftOut a had
+  pub all : (had : Had) (as_ipv4 : Bool) (address : ℕ) → address < 2 ^ 128 → IsFoundIn had items → LiesIn as_ipv4 address had → Has set as_ipv4 address ⊎ IsLeftOut a faults had

@@ -46,7 +46,7 @@ pub fn list_all<S: AsSlice<u8> + Drop, C: Conditions, F: Faults>(
     ensures exact { IfOk result (λ listed. ListsMet reader.now
         (C.says conditions.now (data_section reader.now ∷ []))
         (C.is_unread conditions.now (data_section reader.now ∷ []))
-        also.now except.now listed.0) }
+        also.now except.now listed.0 listed.1) }
     ensures fewest { IfOk result (λ listed. AreFewest listed.0) }
 {
     let (chosen, unread) = gather_all(alloc, reader, conditions, faults)?;

@@ -137,10 +137,10 @@ pub fn gather_all<S: AsSlice<u8> + Drop, C: Conditions, F: Faults>(
     // An address that is in the set has a record that meets the conditions.
     ensures only { IfOk result (λ found. HasOnlyMet reader.now
         (C.says conditions.now (data_section reader.now ∷ [])) found.0) }
-    // An address with a record is in the set, unless the record doesn't meet them, or can't be read.
+    // An address with a record is in the set, unless the record doesn't meet them, or can't be read and is counted.
     ensures all { IfOk result (λ found. HasAllMet reader.now
         (C.says conditions.now (data_section reader.now ∷ []))
-        (C.is_unread conditions.now (data_section reader.now ∷ [])) found.0) }
+        (C.is_unread conditions.now (data_section reader.now ∷ [])) found.0 found.1) }
 {
     let mut walk = match reader.networks(alloc, WithinOptions::default()) {
         Ok(walk) => walk,
