@@ -7,3 +7,4 @@ mod KeptLaws
 mod TakeLaws
 mod SetLaws
 mod AnsweredLaws
+mod ListLaws

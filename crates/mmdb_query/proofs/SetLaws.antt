@@ -1,7 +1,7 @@
 -- Sets of addresses.
 use Rattle.std.proofs.Common.{◌≡◌, ◌⊎◌, ◌↔◌, inl, inr, ℕ, ◌+◌, ◌-◌, ◌*◌, ◌/◌, ◌%◌, ◌^◌, ◌<◌, ◌≤◌, List, [], ◌∷◌, ◌++◌, Option, Bool, true, false, length, take, refl, sym, ap, ◌∙◌, subst, arith}
 use Rattle.std.proofs.lemmas.List.{length-take-le}
-use Rattle.std.proofs.lemmas.Nat.{pow-add, pow_pos, div_below, div-add-mod'}
+use Rattle.std.proofs.lemmas.Nat.{pow-add, pow_pos, div_below}
 use Rattle.std.proofs.Math.Nat.{div-eq_of_lt-le, div-mul-le_self, lt-div-mul-add}
 use Rattle.std.specs.Net.Addr.{is_ipv4}
 use Rattle.mmdb_net.specs.Bits.{bits_of, IsPrefix}
@@ -18,7 +18,7 @@ use Rattle.mmdb_query.specs.Walks.{Item}
 use Rattle.mmdb_query.specs.Walks.Item.{Found, Unread}
 use Rattle.mmdb_query.specs.Taking.{Asked, CantBePut, IsPicked, ArePicked, Runs, Takes}
 use Rattle.mmdb_query.specs.Rows.{nothing}
-use Rattle.mmdb_query.specs.Sets.{BeginsWith, Has, LiesIn, LiesInOne, AddsNetwork, Adds, IsFoundIn, LiesInChosen, IsSurelyChosen, IsGathered, puts_addresses, needs_nothing}
+use Rattle.mmdb_query.specs.Sets.{BeginsWith, Has, LiesIn, LiesInOne, AddsNetwork, Adds, IsFoundIn, LiesInChosen, IsLeftOut, IsGathered, puts_addresses, needs_nothing}
 use Rattle.mmdb_query.specs.declared.addresses.Addresses.{Addresses}
 
 -- ---- the addresses of a block begin with its bits
@@ -170,19 +170,23 @@ module _ {X : Type 0} (a : Asked X) (as_ipv4 : Bool) (address : ℕ) where
         | inr later ↦ chosen_later item items (only_picked items rest others left later)
       ]
 
-  sure_first : (had first : Had) (put : List Had) (fault : ℕ) → had ≡ first → IsPicked a (Found first) put fault → IsSurelyChosen a had → LiesIn as_ipv4 address had → LiesInOne as_ipv4 address put
-  sure_first had first put fault same (inl (inl (says, is), none)) sure lies = subst (LiesInOne as_ipv4 address) (sym is) (inl (subst (LiesIn as_ipv4 address) same lies))
-  sure_first had first put fault same (inl (inr (says, is), none)) sure lies = absurd (sure.1 (subst (λ (h : Had). a.says h.offsets false) (sym same) says))
-  sure_first had first put fault same (inr (cant, is, one)) sure lies = absurd (sure.0 (subst (λ (h : Had). CantBePut a h) (sym same) cant))
+  more_left : (some faults : ℕ) (had : Had) → some ≤ faults → IsLeftOut a some had → IsLeftOut a faults had
+  more_left some faults had up (inl unmet) = inl unmet
+  more_left some faults had up (inr (cant, counted)) = inr (cant, omega (arith, up, counted))
 
-  pub all_picked : (items : List Item) (had : Had) (put : List Had) (faults : ℕ) → ArePicked a items put faults → IsFoundIn had items → IsSurelyChosen a had → LiesIn as_ipv4 address had → LiesInOne as_ipv4 address put
-  all_picked [] had put faults picked none sure lies = absurd none
-  all_picked (Unread ∷ items) had put faults (first, rest, fault, others, one, left, is, sum) found sure lies =
-      subst (LiesInOne as_ipv4 address) (sym is) (lies_later as_ipv4 address first rest (all_picked items had rest others left found sure lies))
-  all_picked (Found next ∷ items) had put faults (first, rest, fault, others, one, left, is, sum) (inl same) sure lies =
-      subst (LiesInOne as_ipv4 address) (sym is) (lies_first as_ipv4 address first rest (sure_first had next first fault same one sure lies))
-  all_picked (Found next ∷ items) had put faults (first, rest, fault, others, one, left, is, sum) (inr found) sure lies =
-      subst (LiesInOne as_ipv4 address) (sym is) (lies_later as_ipv4 address first rest (all_picked items had rest others left found sure lies))
+  picked_first : (had first : Had) (put : List Had) (fault : ℕ) → had ≡ first → IsPicked a (Found first) put fault → LiesIn as_ipv4 address had → LiesInOne as_ipv4 address put ⊎ IsLeftOut a fault had
+  picked_first had first put fault same (inl (inl (says, is), none)) lies = inl (subst (LiesInOne as_ipv4 address) (sym is) (inl (subst (LiesIn as_ipv4 address) same lies)))
+  picked_first had first put fault same (inl (inr (says, is), none)) lies = inr (inl (subst (λ (h : Had). a.says h.offsets false) (sym same) says))
+  picked_first had first put fault same (inr (cant, is, one)) lies = inr (inr (subst (λ (h : Had). CantBePut a h) (sym same) cant, omega (arith, one)))
+
+  pub all_picked : (items : List Item) (had : Had) (put : List Had) (faults : ℕ) → ArePicked a items put faults → IsFoundIn had items → LiesIn as_ipv4 address had → LiesInOne as_ipv4 address put ⊎ IsLeftOut a faults had
+  all_picked [] had put faults picked none lies = absurd none
+  all_picked (Unread ∷ items) had put faults (first, rest, fault, others, one, left, is, sum) found lies =
+      either (λ there. subst (LiesInOne as_ipv4 address) (sym is) (lies_later as_ipv4 address first rest there)) (more_left others faults had (omega (arith, sum))) (all_picked items had rest others left found lies)
+  all_picked (Found next ∷ items) had put faults (first, rest, fault, others, one, left, is, sum) (inl same) lies =
+      either (λ there. subst (LiesInOne as_ipv4 address) (sym is) (lies_first as_ipv4 address first rest there)) (more_left fault faults had (omega (arith, sum))) (picked_first had next first fault same one lies)
+  all_picked (Found next ∷ items) had put faults (first, rest, fault, others, one, left, is, sum) (inr found) lies =
+      either (λ there. subst (LiesInOne as_ipv4 address) (sym is) (lies_later as_ipv4 address first rest there)) (more_left others faults had (omega (arith, sum))) (all_picked items had rest others left found lies)
 
 pub gathered : (comes : List Item → Type 0) (says : List (Option ℕ) → Bool → Type 0) (unsaid : List (Option ℕ) → Type 0) (s : List (List ℕ)) (old new : Addresses) (before after : Option (List ℕ)) (faults : ℕ)
     → old.ipv4 ≡ [] → old.ipv6 ≡ []
@@ -198,5 +202,5 @@ gathered comes says unsaid s old new before after faults none empty takes =
       picked = takes.picked;
       exact = exact;
       only = λ as_ipv4 address fits has. only_picked a as_ipv4 address takes.items takes.put faults takes.picked ((exact as_ipv4 address fits).0 has);
-      all = λ had as_ipv4 address fits found sure lies. (exact as_ipv4 address fits).1 (all_picked a as_ipv4 address takes.items had takes.put faults takes.picked found sure lies);
+      all = λ had as_ipv4 address fits found lies. either (exact as_ipv4 address fits).1 (λ out. out) (all_picked a as_ipv4 address takes.items had takes.put faults takes.picked found lies);
     }

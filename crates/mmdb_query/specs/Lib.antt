@@ -8,6 +8,7 @@ pub mod Taking
 pub mod Rows
 pub mod Sets
 pub mod Answered
+pub mod Lists
 -- What only contracts of private functions and proofs name.
 pub mod Kept
 pub mod Steps

@@ -2,7 +2,6 @@
 use Rattle.std.specs.Prelude.{◌≡◌, ◌⊎◌, ◌↔◌, ◌<◌, ◌^◌, ℕ, List, [], ◌∷◌, Option, Bool, true, false, if◌then◌else◌}
 use Rattle.std.specs.Net.Addr.{is_ipv4}
 use Rattle.mmdb_blocks.specs.Ranges.{IsAmong}
-use Rattle.mmdb_blocks.specs.declared.ranges.BlockRange.{BlockRange}
 use Rattle.mmdb_net.specs.Bits.{bits_of, IsPrefix}
 use Rattle.mmdb_net.specs.Network.{ip_of}
 use Rattle.mmdb_net.specs.declared.network.IpNetwork.{IpNetwork}
@@ -56,9 +55,9 @@ IsFoundIn had (Found first ∷ items) = (had ≡ first) ⊎ IsFoundIn had items
 abbrev pub LiesInChosen : {X : Type 0} → Asked X → Bool → ℕ → List Item → Type 0
 LiesInChosen a as_ipv4 address items = (had : Had) × IsFoundIn had items × a.says had.offsets true × LiesIn as_ipv4 address had
 
--- a network is surely chosen: all can be read, and it isn't said that it is not
-abbrev pub IsSurelyChosen : {X : Type 0} → Asked X → Had → Type 0
-IsSurelyChosen a had = ¬ (CantBePut a had) × ¬ (a.says had.offsets false)
+-- a network is not chosen, or it can't be read whether it is, and is counted
+abbrev pub IsLeftOut : {X : Type 0} → Asked X → ℕ → Had → Type 0
+IsLeftOut a faults had = a.says had.offsets false ⊎ (CantBePut a had × (0 < faults))
 
 -- A set has exactly the addresses of the networks that are chosen of those that come, and so many can't be read.
 pub record IsGathered {X : Type 0} (comes : List Item → Type 0) (a : Asked X) (set : Addresses) (faults : ℕ) : Type 0 where
@@ -68,4 +67,4 @@ pub record IsGathered {X : Type 0} (comes : List Item → Type 0) (a : Asked X) 
   pub picked : ArePicked a items put faults
   pub exact : (as_ipv4 : Bool) (address : ℕ) → address < 2 ^ 128 → Has set as_ipv4 address ↔ LiesInOne as_ipv4 address put
   pub only : (as_ipv4 : Bool) (address : ℕ) → address < 2 ^ 128 → Has set as_ipv4 address → LiesInChosen a as_ipv4 address items
-  pub all : (had : Had) (as_ipv4 : Bool) (address : ℕ) → address < 2 ^ 128 → IsFoundIn had items → IsSurelyChosen a had → LiesIn as_ipv4 address had → Has set as_ipv4 address
+  pub all : (had : Had) (as_ipv4 : Bool) (address : ℕ) → address < 2 ^ 128 → IsFoundIn had items → LiesIn as_ipv4 address had → Has set as_ipv4 address ⊎ IsLeftOut a faults had

@@ -1,14 +1,11 @@
 //! The addresses of chosen networks.
 ghost use Rattle.std.specs.Prelude.{◌≡◌, ◌⊎◌, ◌↔◌, ◌<◌, ◌^◌, ℕ, [], ◌∷◌, IfOk, OnOk};
-ghost use Rattle.std.specs.Net.Addr.{is_ipv4};
-ghost use Rattle.std.specs.declared.net.ip_addr.IpAddr.{IpAddr};
 ghost use Rattle.mmdb_blocks.specs.Ranges.{IsAmong};
 ghost use Rattle.mmdb_reader.specs.File.{data_section};
-ghost use Rattle.mmdb_reader.specs.Lookup.{CanAsk};
-ghost use Rattle.mmdb_query.specs.Answered.{number_of_ip, IsOfWidth, IsAnswered};
+ghost use Rattle.mmdb_query.specs.Answered.{HasOnlyMet, HasAllMet};
 ghost use Rattle.mmdb_query.specs.Had.{network_bits};
 ghost use Rattle.mmdb_query.specs.Rows.{nothing};
-ghost use Rattle.mmdb_query.specs.Sets.{AddsNetwork, BeginsWith, Has, IsGathered, puts_addresses, needs_nothing};
+ghost use Rattle.mmdb_query.specs.Sets.{AddsNetwork, BeginsWith, IsGathered, puts_addresses, needs_nothing};
 ghost use Rattle.mmdb_query.specs.Taking.{asks};
 
 use crate::answer::Answer;
@@ -138,9 +135,12 @@ pub fn gather_all<S: AsSlice<u8> + Drop, C: Conditions, F: Faults>(
     faults: &mut F,
 ) -> Result<(Addresses, u64), QueryError>
     // An address that is in the set has a record that meets the conditions.
-    ensures { IfOk result (λ found. (address : IpAddr) → CanAsk reader.now address
-        → IsOfWidth address → Has found.0 (is_ipv4 address) (number_of_ip address)
-        → IsAnswered reader.now (C.says conditions.now (data_section reader.now ∷ [])) address) }
+    ensures only { IfOk result (λ found. HasOnlyMet reader.now
+        (C.says conditions.now (data_section reader.now ∷ [])) found.0) }
+    // An address with a record is in the set, unless the record doesn't meet them, or can't be read and is counted.
+    ensures all { IfOk result (λ found. HasAllMet reader.now
+        (C.says conditions.now (data_section reader.now ∷ []))
+        (C.is_unread conditions.now (data_section reader.now ∷ [])) found.0 found.1) }
 {
     let mut walk = match reader.networks(alloc, WithinOptions::default()) {
         Ok(walk) => walk,

@@ -3,6 +3,7 @@ ghost use Rattle.std.specs.Prelude.{◌≡◌, IfOk, [], false};
 ghost use Rattle.std.specs.Io.KnownBytes.{Appends};
 ghost use Rattle.mmdb_query.specs.Steps.{is_memory as spec_is_memory};
 
+use mmdb_blocks::RangesError;
 use mmdb_reader::{IpNetwork, MaxMindDbError};
 use std::alloc::{AllocError, AllocFailed};
 use std::io::{self, Write};
@@ -16,6 +17,8 @@ pub enum QueryError {
     Write(io::Error),
     /// More networks come than can be counted.
     TooMany,
+    /// Blocks of addresses would not ascend.
+    OutOfOrder,
 }
 
 impl QueryError {
@@ -38,6 +41,15 @@ impl From<AllocError> for QueryError {
 impl<T: Drop> From<AllocFailed<T>> for QueryError {
     fn from(_error: AllocFailed<T>) -> QueryError {
         QueryError::Memory
+    }
+}
+
+impl From<RangesError> for QueryError {
+    fn from(error: RangesError) -> QueryError {
+        match error {
+            RangesError::OutOfOrder => QueryError::OutOfOrder,
+            RangesError::Memory => QueryError::Memory,
+        }
     }
 }
 

@@ -2,11 +2,13 @@
 //! into rows or into sets of addresses.
 #![tactic(auto)]
 
+mod address_blocks;
 mod addresses;
 mod answer;
 mod choice;
 mod each;
 mod error;
+pub mod laws;
 mod numbered;
 mod outline;
 mod rows;
@@ -15,6 +17,7 @@ mod template;
 mod values;
 mod walk;
 
+pub use address_blocks::{AddressBlocks, blocks, list_all};
 pub use addresses::{Addresses, gather, gather_all};
 pub use answer::Answer;
 pub use choice::{Choice, Conditions};

@@ -2,12 +2,16 @@
 ghost use Rattle.std.specs.Prelude.{⊤, ℕ, List};
 
 use super::databases::{BROKEN, FIRST, HALF, Tree, reader_of};
-use mmdb_blocks::{BlockKind, Ranges, listed_blocks};
-use mmdb_query::{Answer, Conditions, Faults, QueryError, Template, export_rows, gather_all};
+use mmdb_blocks::{Block, BlockKind};
+use mmdb_query::{
+    Addresses, Answer, Conditions, Faults, QueryError, Template, blocks, export_rows, gather_all,
+    list_all,
+};
 use mmdb_reader::{IpNetwork, MaxMindDbError, PathElement, WithinOptions};
 use mmdb_value::Value;
 use mmdb_vectors::failures::Failures;
 use std::alloc::{AllocError, Global};
+use std::net::{IpAddr, Ipv4Addr};
 
 /// The field that conditions and rows are of.
 const FIELD: &[PathElement<'static>] = &[PathElement::Key("c")];
@@ -170,13 +174,9 @@ fn rows_of(alloc: Global, row: &Row) -> Result<Came, QueryError> {
     })
 }
 
-// The fewest blocks of a set of addresses.
-fn push_blocks(alloc: Global, ranges: &Ranges, text: &mut Vec<u8>) -> Result<(), QueryError> {
-    let none = Ranges::new(alloc);
-    let Ok(blocks) = listed_blocks(alloc, ranges, &none, &none) else {
-        return Err(QueryError::Memory);
-    };
-    for block in blocks.as_slice() {
+// Blocks as networks.
+fn push_networks(blocks: &[Block], text: &mut Vec<u8>) -> Result<(), QueryError> {
+    for block in blocks {
         if let Ok(network) = BlockKind::Ipv4.network_of(*block) {
             network.push_text(text)?;
             text.push(b' ')?;
@@ -193,9 +193,11 @@ fn blocks_of(alloc: Global, row: &Row) -> Result<Came, QueryError> {
     };
     let conditions = Is { text: row.text };
     let (addresses, count) = gather_all(alloc, &reader, &conditions, &mut faults)?;
+    let none = Addresses::new(alloc);
+    let listed = blocks(alloc, &addresses, &none, &none)?;
     let mut text = Vec::new(alloc);
-    push_blocks(alloc, addresses.ipv4(), &mut text)?;
-    push_blocks(alloc, addresses.ipv6(), &mut text)?;
+    push_networks(listed.ipv4.as_slice(), &mut text)?;
+    push_networks(listed.ipv6.as_slice(), &mut text)?;
     Ok(Came {
         text,
         reported: faults.text,
@@ -212,6 +214,61 @@ fn rows_and_addresses(rt: HostRuntime) -> Result<(), Failures> {
         let listed = blocks_of(rt.alloc(), row);
         let count = if row.unmet.is_empty() { 0 } else { 1 };
         failures.expect(row, is_came(&listed, row.blocks, row.unmet, count));
+    }
+    failures.verdict()
+}
+
+/// A database, what its field has to be, the first bytes of a network of 8 bits that is added and of one that is taken away; the
+/// blocks.
+#[derive(Clone, Copy, Debug)]
+struct ListRow {
+    tree: Tree,
+    text: Option<&'static str>,
+    also: u8,
+    except: u8,
+    blocks: &'static str,
+}
+
+#[rattlefmt::skip]
+const LISTS: &[ListRow] = &[
+    ListRow { tree: FIRST, text: Some("A"), also: 10, except: 64, blocks: "10.0.0.0/8 65.0.0.0/8 66.0.0.0/7 68.0.0.0/6 72.0.0.0/5 80.0.0.0/4 96.0.0.0/3 192.0.0.0/2 " },
+    ListRow { tree: HALF, text: None, also: 128, except: 128, blocks: "0.0.0.0/1 " },
+];
+
+// The addresses that begin with a byte.
+fn set_of(alloc: Global, first: u8) -> Result<Addresses, QueryError> {
+    let mut set = Addresses::new(alloc);
+    let address = IpAddr::V4(Ipv4Addr::new(first, 0, 0, 0));
+    match IpNetwork::new(address, 8) {
+        Ok(network) => set.add(network)?,
+        Err(_) => return Err(QueryError::OutOfOrder),
+    }
+    Ok(set)
+}
+
+// The blocks of a row of the table of lists.
+fn list_of(alloc: Global, row: &ListRow) -> Result<Vec<u8>, QueryError> {
+    let reader = reader_of(alloc, row.tree).map_err(of_database)?;
+    let mut faults = Reported {
+        text: Vec::new(alloc),
+    };
+    let conditions = Is { text: row.text };
+    let (also, except) = (set_of(alloc, row.also)?, set_of(alloc, row.except)?);
+    let (listed, _) = list_all(alloc, &reader, &conditions, &also, &except, &mut faults)?;
+    let mut text = Vec::new(alloc);
+    push_networks(listed.ipv4.as_slice(), &mut text)?;
+    push_networks(listed.ipv6.as_slice(), &mut text)?;
+    Ok(text)
+}
+
+#[test]
+fn lists_of_addresses(rt: HostRuntime) -> Result<(), Failures> {
+    let mut failures = Failures::new(rt.alloc());
+    for row in LISTS {
+        match list_of(rt.alloc(), row) {
+            Ok(text) => failures.expect(row, text.as_slice() == row.blocks.as_bytes()),
+            Err(_) => failures.expect(row, false),
+        }
     }
     failures.verdict()
 }

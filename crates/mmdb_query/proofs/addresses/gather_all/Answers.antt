@@ -5,14 +5,25 @@ use Rattle.mmdb_query.specs.Walks.{item_listed, comes_alone}
 use Rattle.mmdb_query.specs.Taking.{asks}
 use Rattle.mmdb_query.specs.Rows.{nothing}
 use Rattle.mmdb_query.specs.Sets.{puts_addresses, needs_nothing}
-use Rattle.mmdb_query.proofs.AnsweredLaws.{all_answered}
+use Rattle.mmdb_query.proofs.AnsweredLaws.{has_only, has_all}
 use Rattle.mmdb_query.proofs.addresses.gather_all.Goals as goal
 
-pub returns : goal.returns
-returns g c =
+pub returns-clause-only : goal.returns-clause-only
+returns-clause-only g c =
     let w = c.in-Ok.walk in
     let l = c.in-Ok.ensures.listing in
     let walked = database_walked w in
-    all_answered c.gather.result (comes_alone w)
+    has_only
     (λ (db : Database). asks g.C.Conditions.says g.C.Conditions.is_unread puts_addresses needs_nothing c.args.conditions.now nothing (data_section db ∷ []))
-    c.default.result [] l.list walked c.args.reader.now c.in-Ok.ensures.database l.is_listing (λ items come. come ∙ ap (map (item_listed walked)) l.comes) c.gather.ensures
+    (comes_alone w) c.default.result l.list walked c.args.reader.now c.gather.result c.in-Ok.ensures.database c.default.ensures l.is_listing
+    (λ items come. come ∙ ap (map (item_listed walked)) l.comes) c.gather.ensures
+
+pub returns-clause-all : goal.returns-clause-all
+returns-clause-all g c =
+    let w = c.in-Ok.walk in
+    let l = c.in-Ok.ensures.listing in
+    let walked = database_walked w in
+    has_all
+    (λ (db : Database). asks g.C.Conditions.says g.C.Conditions.is_unread puts_addresses needs_nothing c.args.conditions.now nothing (data_section db ∷ []))
+    (comes_alone w) c.default.result l.list walked c.args.reader.now c.gather.result c.in-Ok.ensures.database c.default.ensures l.is_listing
+    (λ items come. come ∙ ap (map (item_listed walked)) l.comes) (λ offsets unput. unput) c.gather.ensures
