@@ -7,3 +7,5 @@ mod KeptLaws
 mod TakeLaws
 mod SetLaws
 mod AnsweredLaws
+mod SegmentLaws
+mod AbreastLaws

@@ -8,6 +8,8 @@ pub mod Taking
 pub mod Rows
 pub mod Sets
 pub mod Answered
+pub mod Abreast
 -- What only contracts of private functions and proofs name.
 pub mod Kept
 pub mod Steps
+pub mod Segments
