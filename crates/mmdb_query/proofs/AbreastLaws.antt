@@ -1,5 +1,5 @@
 -- Several databases side by side.
-use Rattle.std.proofs.Common.{◌≡◌, ◌<◌, ◌≤◌, ℕ, zero, suc, ◌+◌, ◌-◌, ◌^◌, List, [], ◌∷◌, ◌++◌, length, map, take, get_or, set, Option, Some, None, IfSome, MatchOption, Result, Ok, Err, IfOk, IfErr, refl, sym, ap, ◌∙◌, subst, arith}
+use Rattle.std.proofs.Common.{◌≡◌, ◌<◌, ℕ, zero, suc, ◌+◌, ◌-◌, List, [], ◌∷◌, ◌++◌, length, map, take, get_or, set, Option, Some, None, IfSome, MatchOption, Result, Ok, Err, IfOk, IfErr, refl, sym, ap, ◌∙◌, subst, arith}
 use Rattle.std.specs.List.{All}
 use Rattle.std.proofs.Math.Logic.{∥∥₁_map, ∥∥₁_elim}
 use base.Stored.{Coded-set}
@@ -13,11 +13,11 @@ use Rattle.mmdb_format.specs.declared.error.MaxMindDbError.TheVariants.{Memory, 
 use Rattle.mmdb_net.specs.Network.{ip_of}
 use Rattle.mmdb_net.specs.declared.network.IpNetwork.{IpNetwork}
 use Rattle.mmdb_blocks.specs.declared.block.Block.{Block}
-use Rattle.mmdb_blocks.specs.Blocks.{IsWithin, size, end}
+use Rattle.mmdb_blocks.specs.Blocks.{IsWithin}
 use Rattle.mmdb_reader.specs.File.{Database}
 use Rattle.mmdb_reader.specs.Lookup.{CanAsk}
-use Rattle.mmdb_compare.specs.Agreeing.{IsRecordAt, IsLeftOf, AllIsLeft, LeftGoesOn, LeftAfterUnread, AnswersAgree}
-use Rattle.mmdb_compare.specs.Coming.{Coming, Answer, coming_from, answer_at}
+use Rattle.mmdb_compare.specs.Agreeing.{IsLeftOf, AllIsLeft, LeftGoesOn, LeftAfterUnread, AnswersAgree}
+use Rattle.mmdb_compare.specs.Coming.{Coming, Answer, answer_at}
 use Rattle.mmdb_compare.specs.Coming.Answer.{Record, Nothing, Unknown, Unreadable}
 use Rattle.mmdb_compare.specs.Listed.{all_of}
 use Rattle.mmdb_compare.specs.Parts.{IsPast}
@@ -25,7 +25,7 @@ use Rattle.mmdb_compare.specs.Together.{Abreast, AreBegun, AreOver, IsNextBlock,
 use Rattle.mmdb_compare.specs.declared.together.TogetherPart.{TogetherPart}
 use Rattle.mmdb_compare.specs.declared.together.TogetherPart.TheVariants.{Stretch as StretchPart, Unread as UnreadPart}
 use Rattle.mmdb_query.specs.Had.{Had}
-use Rattle.mmdb_query.specs.Walks.{Item, IsStep}
+use Rattle.mmdb_query.specs.Walks.{IsStep}
 use Rattle.mmdb_query.specs.Abreast.{IsOfBlock, offsets_said, ComesAbreast, IsThere, AreThere, AreThereIn, AreLeft, AreLeftIn}
 
 module _ {D : Type 0} (database : D → Database) (range : D → IpNetwork) where
