@@ -1,5 +1,5 @@
 -- Several databases side by side.
-use Rattle.std.proofs.Common.{◌≡◌, ◌<◌, ℕ, zero, suc, ◌+◌, ◌-◌, List, [], ◌∷◌, ◌++◌, length, map, take, get_or, set, Option, Some, None, IfSome, MatchOption, Result, Ok, Err, IfOk, IfErr, refl, sym, ap, ◌∙◌, subst, arith}
+use Rattle.std.proofs.Common.{◌≡◌, ◌<◌, ℕ, zero, suc, ◌+◌, ◌-◌, List, [], ◌∷◌, ◌++◌, length, map, take, get_or, set, Option, Some, None, IfSome, MatchOption, refl, sym, ap, ◌∙◌, subst, arith}
 use Rattle.std.specs.List.{All}
 use Rattle.std.proofs.Math.Logic.{∥∥₁_map, ∥∥₁_elim}
 use base.Stored.{Coded-set}
@@ -7,9 +7,6 @@ use Rattle.std.specs.Coded.{coded_ℕ}
 use Rattle.std.proofs.lemmas.Nat.{pow_pos}
 use Rattle.std.proofs.lemmas.List.{length-map, map_push, map_more}
 use Rattle.std.proofs.lemmas.List.Elements.{All-head, All-tail}
-use Rattle.mmdb_format.specs.Error.{MemoryApart, OfMemory, kind_of}
-use Rattle.mmdb_format.specs.declared.error.MaxMindDbError.{MaxMindDbError}
-use Rattle.mmdb_format.specs.declared.error.MaxMindDbError.TheVariants.{Memory, InvalidDatabase, Io, Decoding, ResourceLimit, InvalidNetwork, InvalidInput}
 use Rattle.mmdb_net.specs.Network.{ip_of}
 use Rattle.mmdb_net.specs.declared.network.IpNetwork.{IpNetwork}
 use Rattle.mmdb_blocks.specs.declared.block.Block.{Block}
@@ -21,12 +18,10 @@ use Rattle.mmdb_compare.specs.Coming.{Coming, Answer, answer_at}
 use Rattle.mmdb_compare.specs.Coming.Answer.{Record, Nothing, Unknown, Unreadable}
 use Rattle.mmdb_compare.specs.Listed.{all_of}
 use Rattle.mmdb_compare.specs.Parts.{IsPast}
-use Rattle.mmdb_compare.specs.Together.{Abreast, AreBegun, AreOver, IsNextBlock, IsNextOfAll, all_from, answers_at, offset_of, offset_in}
+use Rattle.mmdb_compare.specs.Together.{Abreast, AreBegun, AreOver, IsNextOfAll, all_from, answers_at, offset_of, offset_in}
 use Rattle.mmdb_compare.specs.declared.together.TogetherPart.{TogetherPart}
 use Rattle.mmdb_compare.specs.declared.together.TogetherPart.TheVariants.{Stretch as StretchPart, Unread as UnreadPart}
-use Rattle.mmdb_query.specs.Had.{Had}
-use Rattle.mmdb_query.specs.Walks.{IsStep}
-use Rattle.mmdb_query.specs.Abreast.{IsOfBlock, offsets_said, ComesAbreast, IsThere, AreThere, AreThereIn, AreLeft, AreLeftIn}
+use Rattle.mmdb_query.specs.Abreast.{IsThere, AreThere, AreThereIn, AreLeft, AreLeftIn}
 
 module _ {D : Type 0} (database : D → Database) (range : D → IpNetwork) where
   -- ---- what is left of each database
@@ -135,21 +130,3 @@ pub one_more : {R D A : Type 0} (f : R → A) (g : D → A) (rs after : List R) 
     → place < length ds → f r ≡ g (get_or ds place d) → map f after ≡ map g (take (place + 1) ds)
 one_more f g rs after r ds place d push same within is =
     ap (map f) push ∙ map_push f rs r ∙ ap (λ l. l ++ f r ∷ []) same ∙ ap (λ a. map g (take place ds) ++ a ∷ []) is ∙ sym (map_more g ds place d within)
-
--- ---- steps
-
-only_memory : (P : Type 0) (e : MaxMindDbError) → kind_of e ≡ OfMemory → MemoryApart e P
-only_memory P Memory is = tt
-only_memory P (InvalidDatabase message offset) is = cc
-only_memory P (Io e) is = cc
-only_memory P (Decoding message offset path) is = cc
-only_memory P (ResourceLimit message offset path) is = cc
-only_memory P (InvalidNetwork e) is = cc
-only_memory P (InvalidInput message) is = cc
-
--- a block is the next item
-pub block_comes : {W A : Type 0} (had : A → Had) (together : W → Abreast) (old new : W) (block : Block) (r : Result A MaxMindDbError)
-    → IsNextBlock (together old) (together new) block → IfOk r (λ s. IsOfBlock (had s) block) → IfOk r (λ s. (had s).offsets ≡ offsets_said (together new).answers)
-    → IfErr r (λ e. kind_of e ≡ OfMemory) → IsStep (λ w. ComesAbreast (together w)) had old (Some r) new
-block_comes had together old new block (Ok s) next is said out = λ rest come. (together new, block, next, is, said, come)
-block_comes had together old new block (Err e) next is said out = only_memory _ e out

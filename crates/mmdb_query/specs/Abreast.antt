@@ -1,5 +1,5 @@
 -- Several databases side by side.
-use Rattle.std.specs.Prelude.{◌≡◌, ◌<◌, ◌^◌, ◌+◌, ◌*◌, ℕ, List, [], ◌∷◌, length, take, map, get_or, Option, Some, None}
+use Rattle.std.specs.Prelude.{◌≡◌, ◌↔◌, ◌<◌, ◌≤◌, ◌^◌, ◌+◌, ◌*◌, ℕ, Bool, IsTrue, List, [], ◌∷◌, length, take, map, get_or, Option, Some, None}
 use Rattle.mmdb_net.specs.Bits.{bits_of}
 use Rattle.mmdb_net.specs.Network.{ip_of}
 use Rattle.mmdb_net.specs.declared.network.IpNetwork.{IpNetwork}
@@ -8,7 +8,8 @@ use Rattle.mmdb_reader.specs.File.{Database}
 use Rattle.mmdb_reader.specs.Lookup.{CanAsk}
 use Rattle.mmdb_compare.specs.Agreeing.{IsRecordAt, IsLeftOf}
 use Rattle.mmdb_compare.specs.Coming.{Coming, Answer}
-use Rattle.mmdb_compare.specs.Together.{Abreast, AreOver, IsNextBlock, IsNextUnreadOf, offset_of, offset_in}
+use Rattle.mmdb_compare.specs.Together.{Abreast, AreOver, IsNextOfAll, offset_of, offset_in}
+use Rattle.mmdb_compare.specs.declared.together.TogetherStretch.{TogetherStretch}
 use Rattle.mmdb_compare.specs.declared.together.TogetherPart.{TogetherPart}
 use Rattle.mmdb_compare.specs.declared.together.TogetherPart.TheVariants.{Stretch as StretchPart, Unread as UnreadPart}
 use Rattle.mmdb_query.specs.Had.{Had}
@@ -16,9 +17,14 @@ use Rattle.mmdb_query.specs.Keys.{digit_of, radix_of}
 use Rattle.mmdb_query.specs.Walks.{Item}
 use Rattle.mmdb_query.specs.Walks.Item.{Found, Unread}
 
--- a network has the addresses of a block
-abbrev pub IsOfBlock : Had → Block → Type 0
-IsOfBlock had block = had.bits ≡ take block.prefix (bits_of 128 block.first)
+-- a block is to be shown as a network of IPv4, and its addresses are some of IPv4
+abbrev pub IsOfIpv4 : Bool → Block → Type 0
+IsOfIpv4 is_ipv4 block = IsTrue is_ipv4 × (96 ≤ block.prefix) × (block.first < 2 ^ 32)
+
+-- a network has the addresses of a stretch, and its kind
+pub record IsOfStretch (had : Had) (stretch : TogetherStretch) : Type 0 where
+  pub bits : had.bits ≡ take stretch.block.prefix (bits_of 128 stretch.block.first)
+  pub kind : IsTrue had.as_ipv4 ↔ IsOfIpv4 stretch.is_ipv4 stretch.block
 
 -- where each database has its record, by what they answer
 abbrev pub offsets_said : List Answer → List (Option ℕ)
@@ -29,9 +35,9 @@ offsets_said answers = map offset_of answers
 abbrev pub ComesAbreast : Abreast → List Item → Type 0
 ComesAbreast before [] = (after : Abreast) × AreOver before after
 ComesAbreast before (Found had ∷ items) =
-    (after : Abreast) × (block : Block) × IsNextBlock before after block × IsOfBlock had block
+    (after : Abreast) × (stretch : TogetherStretch) × IsNextOfAll before after (StretchPart stretch) × IsOfStretch had stretch
     × (had.offsets ≡ offsets_said after.answers) × ComesAbreast after items
-ComesAbreast before (Unread ∷ items) = (after : Abreast) × (place : ℕ) × IsNextUnreadOf before after place × ComesAbreast after items
+ComesAbreast before (Unread ∷ items) = (after : Abreast) × (place : ℕ) × IsNextOfAll before after (UnreadPart place) × ComesAbreast after items
 
 -- ---- what only contracts of private functions and proofs name
 

@@ -1,6 +1,7 @@
 //! Several databases side by side.
 ghost use Rattle.std.specs.Prelude.{◌≡◌, ◌↔◌, IsTrue, IfOk, IfErr, IfSome, IfNone, MatchOption, map, take};
 ghost use Rattle.std.specs.List.{All};
+ghost use Rattle.std.specs.Net.Addr.{is_ipv4};
 ghost use Rattle.mmdb_format.specs.Error.{OfMemory, kind_of};
 ghost use Rattle.mmdb_net.specs.Bits.{bits_of};
 ghost use Rattle.mmdb_net.specs.Network.{ip_of};
@@ -10,7 +11,7 @@ ghost use Rattle.mmdb_reader.specs.Lookup.{CanAsk};
 ghost use Rattle.mmdb_compare.specs.Listed.{all_of};
 ghost use Rattle.mmdb_compare.specs.Together.{AreBegun, AreOver, IsNextOfAll};
 ghost use Rattle.mmdb_query.specs.Had.{network_bits};
-ghost use Rattle.mmdb_query.specs.Abreast.{offsets_said, AreThere, AreThereIn, AreLeftIn};
+ghost use Rattle.mmdb_query.specs.Abreast.{IsOfIpv4, offsets_said, AreThere, AreThereIn, AreLeftIn};
 
 use crate::segment::{DatabaseRecord, Segment};
 use crate::walk::Walk;
@@ -112,6 +113,8 @@ impl<'a, S: AsSlice<u8> + Drop> Many<'a, S> {
         requires block { IsBlock stretch.block }
         requires there { ∥ AreThere (λ d. d.reader.now) stretch.block.first
             self.now.databases.now self.now.together.answers ∥₁ }
+        ensures kind { IfOk result (λ s. IsTrue (is_ipv4 (ip_of s.network))
+            ↔ IsOfIpv4 stretch.is_ipv4 stretch.block) }
         ensures bits { IfOk result (λ s. network_bits s.network
             ≡ take stretch.block.prefix (bits_of 128 stretch.block.first)) }
         ensures sections { IfOk result (λ s. map (λ r. data_section r.reader.now)

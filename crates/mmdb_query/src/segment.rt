@@ -1,6 +1,6 @@
 //! What several databases have in a block in which each of them has one answer.
-ghost use Rattle.std.specs.Prelude.{◌≡◌, ◌≤◌, ◌-◌, ◌<◌, ◌^◌, ◌++◌, IfSome, IfNone, None, take, nat_eq, false};
-ghost use Rattle.std.specs.Net.Addr.{is_ipv4};
+ghost use Rattle.std.specs.Prelude.{◌≡◌, ◌↔◌, ◌≤◌, ◌-◌, ◌<◌, ◌^◌, ◌++◌, IsTrue, IfSome, IfNone, None, take, nat_eq, false};
+ghost use Rattle.std.specs.Net.Addr.{is_ipv4 as spec_is_ipv4};
 ghost use Rattle.mmdb_net.specs.Address.{IsMaskedIp};
 ghost use Rattle.mmdb_net.specs.Bits.{bits_of, zero_bits};
 ghost use Rattle.mmdb_net.specs.Network.{ip_of, prefix_of};
@@ -11,7 +11,7 @@ ghost use Rattle.mmdb_reader.specs.Numbered.{HasZerosAfter};
 ghost use Rattle.mmdb_compare.specs.Found.{numbered_ip};
 ghost use Rattle.mmdb_query.specs.Had.{network_bits};
 ghost use Rattle.mmdb_query.specs.Reading.{reads_in, value_found, outline_found, IsReadAs};
-ghost use Rattle.mmdb_query.specs.Abreast.{IsThere, IsLonger};
+ghost use Rattle.mmdb_query.specs.Abreast.{IsThere, IsOfIpv4, IsLonger};
 
 use crate::answer::Answer;
 use crate::numbered::network_of;
@@ -105,6 +105,13 @@ fn longer_key(section: &[u8], key: Option<usize>, offset: Option<usize>) -> Opti
         .checked_add(digit)
 }
 
+// Whether a block is to be one of IPv4, and lies there.
+fn is_of_ipv4(block: Block, is_ipv4: bool) -> bool
+    ensures { IsTrue result ↔ IsOfIpv4 is_ipv4 block }
+{
+    is_ipv4 && block.prefix >= 96 && block.first < 1 << 32
+}
+
 // The numbers of the network that a block is: one of IPv4, where it is to be and lies there.
 fn numbers_of(block: Block, is_ipv4: bool) -> NumberedNetwork
     requires { IsBlock block }
@@ -112,12 +119,13 @@ fn numbers_of(block: Block, is_ipv4: bool) -> NumberedNetwork
     ensures small { result.width ≤ 128 }
     ensures is_width { nat_eq result.width 32 ≡ false → result.width ≡ 128 }
     ensures fits { result.first < 2 ^ result.width }
+    ensures kind { IsTrue (nat_eq result.width 32) ↔ IsOfIpv4 is_ipv4 block }
     ensures zeros { HasZerosAfter result.width result.prefix result.first }
     ensures bits { zero_bits (128 - result.width) ++ take result.prefix
         (bits_of result.width result.first) ≡ take block.prefix (bits_of 128 block.first) }
 {
     let prefix = usize::from(block.prefix);
-    if is_ipv4 && prefix >= 96 && block.first < 1 << 32 {
+    if is_of_ipv4(block, is_ipv4) {
         NumberedNetwork {
             first: block.first,
             width: 32,
@@ -135,6 +143,7 @@ fn numbers_of(block: Block, is_ipv4: bool) -> NumberedNetwork
 // The network that a block is: one of IPv4, where it is to be and lies there.
 fn network_of_block(block: Block, is_ipv4: bool) -> IpNetwork
     requires { IsBlock block }
+    ensures kind { IsTrue (spec_is_ipv4 (ip_of result)) ↔ IsOfIpv4 is_ipv4 block }
     ensures bits { network_bits result ≡ take block.prefix (bits_of 128 block.first) }
     ensures masked { IsMaskedIp (ip_of result) (prefix_of result) (ip_of result) }
 {
@@ -157,6 +166,7 @@ impl<'a, S: AsSlice<u8> + Drop> Segment<'a, S> {
         records: Vec<DatabaseRecord<'a, S>>,
     ) -> Segment<'a, S>
         requires { IsBlock block }
+        ensures kind { IsTrue (spec_is_ipv4 (ip_of result.network)) ↔ IsOfIpv4 is_ipv4 block }
         ensures bits { network_bits result.network
             ≡ take block.prefix (bits_of 128 block.first) }
         ensures records { result.records.items ≡ records.entry.items }
@@ -176,7 +186,7 @@ impl<'a, S: AsSlice<u8> + Drop> Answer for Segment<'a, S> {
 
     ghost had = { λ s. record {
       bits = network_bits s.network;
-      as_ipv4 = is_ipv4 (ip_of s.network);
+      as_ipv4 = spec_is_ipv4 (ip_of s.network);
       offsets = offsets_of s.records.items;
     } };
 
