@@ -8,3 +8,5 @@ mod TakeLaws
 mod SetLaws
 mod AnsweredLaws
 mod ListLaws
+mod SegmentLaws
+mod AbreastLaws

@@ -9,6 +9,8 @@ pub mod Rows
 pub mod Sets
 pub mod Answered
 pub mod Lists
+pub mod Abreast
 -- What only contracts of private functions and proofs name.
 pub mod Kept
 pub mod Steps
+pub mod Segments

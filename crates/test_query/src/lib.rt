@@ -7,3 +7,5 @@ mod answers;
 mod databases;
 #[cfg(test)]
 mod queries;
+#[cfg(test)]
+mod several;

@@ -18,8 +18,8 @@ const FIELD: &[PathElement<'static>] = &[PathElement::Key("c")];
 
 /// The field is this text, if one is given.
 #[derive(Clone, Copy)]
-struct Is {
-    text: Option<&'static str>,
+pub struct Is {
+    pub text: Option<&'static str>,
 }
 
 impl Conditions for Is {
@@ -41,8 +41,8 @@ impl Conditions for Is {
 
 /// Rows of the field behind the network.
 #[derive(Clone, Copy)]
-struct Cells {
-    front: &'static str,
+pub struct Cells {
+    pub front: &'static str,
 }
 
 // The cell of a value.
@@ -77,8 +77,8 @@ impl Template for Cells {
 
 /// Networks that can't be read, one behind the other.
 #[derive(Drop)]
-struct Reported {
-    text: Vec<u8>,
+pub struct Reported {
+    pub text: Vec<u8>,
 }
 
 impl Faults for Reported {
@@ -124,14 +124,14 @@ const ROWS: &[Row] = &[
 
 /// What came of a query: what was written or listed, what was reported, and how many networks can't be read.
 #[derive(Drop)]
-struct Came {
-    text: Vec<u8>,
-    reported: Vec<u8>,
-    count: u64,
+pub struct Came {
+    pub text: Vec<u8>,
+    pub reported: Vec<u8>,
+    pub count: u64,
 }
 
 // Whether this came.
-fn is_came(came: &Result<Came, QueryError>, text: &str, reported: &str, count: u64) -> bool {
+pub fn is_came(came: &Result<Came, QueryError>, text: &str, reported: &str, count: u64) -> bool {
     match came {
         Ok(came) => {
             came.text.as_slice() == text.as_bytes()
@@ -175,7 +175,7 @@ fn rows_of(alloc: Global, row: &Row) -> Result<Came, QueryError> {
 }
 
 // Blocks as networks.
-fn push_networks(blocks: &[Block], text: &mut Vec<u8>) -> Result<(), QueryError> {
+pub fn push_networks(blocks: &[Block], text: &mut Vec<u8>) -> Result<(), QueryError> {
     for block in blocks {
         if let Ok(network) = BlockKind::Ipv4.network_of(*block) {
             network.push_text(text)?;

@@ -1,0 +1,256 @@
+//! What several databases have in a block in which each of them has one answer.
+ghost use Rattle.std.specs.Prelude.{◌≡◌, ◌↔◌, ◌≤◌, ◌-◌, ◌<◌, ◌^◌, ◌++◌, IsTrue, IfSome, IfNone, None, take, nat_eq, false};
+ghost use Rattle.std.specs.Net.Addr.{is_ipv4 as spec_is_ipv4};
+ghost use Rattle.mmdb_net.specs.Address.{IsMaskedIp};
+ghost use Rattle.mmdb_net.specs.Bits.{bits_of, zero_bits};
+ghost use Rattle.mmdb_net.specs.Network.{ip_of, prefix_of};
+ghost use Rattle.mmdb_blocks.specs.Blocks.{IsBlock};
+ghost use Rattle.mmdb_reader.specs.File.{data_section};
+ghost use Rattle.mmdb_reader.specs.Found.{section_asked, offset_found};
+ghost use Rattle.mmdb_reader.specs.Numbered.{HasZerosAfter};
+ghost use Rattle.mmdb_compare.specs.Found.{numbered_ip};
+ghost use Rattle.mmdb_query.specs.Had.{network_bits};
+ghost use Rattle.mmdb_query.specs.Reading.{reads_in, value_found, outline_found, IsReadAs};
+ghost use Rattle.mmdb_query.specs.Abreast.{IsThere, IsOfIpv4, IsLonger};
+
+use crate::answer::Answer;
+use crate::numbered::network_of;
+use crate::values::{outline_along, value_along};
+use mmdb_blocks::Block;
+use mmdb_reader::{IpNetwork, LookupResult, MaxMindDbError, NumberedNetwork, PathElement, Reader};
+use mmdb_value::Value;
+use std::alloc::Global;
+use std::convert::AsSlice;
+use std::net::{IpAddr, Ipv4Addr, Ipv6Addr};
+
+/// Where one of several databases has its record at an address, if it has one.
+#[derive(Drop)]
+pub(crate) struct DatabaseRecord<'a, S: AsSlice<u8> + Drop> {
+    pub(crate) reader: &'a Reader<S>,
+    pub(crate) address: u128,
+    pub(crate) offset: Option<usize>,
+    pub(crate) ghost there: { ∥ IsThere reader.now address offset ∥₁ },
+}
+
+// The address of a number, one of IPv4 below 2^32.
+fn address_of(number: u128) -> IpAddr
+    ensures { result ≡ numbered_ip number }
+{
+    if number < 1 << 32 {
+        IpAddr::V4(Ipv4Addr::from_bits(number as u32))
+    } else {
+        IpAddr::V6(Ipv6Addr::from_bits(number))
+    }
+}
+
+impl<'a, S: AsSlice<u8> + Drop> DatabaseRecord<'a, S> {
+    // What a lookup finds, where there is a record.
+    fn found(&self) -> Option<LookupResult<'a, S>>
+        ensures none { IfNone result (self.now.offset ≡ None) }
+        ensures section { IfSome result
+            (λ found. section_asked found ≡ data_section self.now.reader.now) }
+        ensures offset { IfSome result (λ found. offset_found found ≡ self.now.offset) }
+    {
+        if self.offset.is_none() {
+            return None;
+        }
+        let reader = self.reader;
+        let Ok(found) = reader.lookup(address_of(self.address)) else {
+            return None;
+        };
+        Some(found)
+    }
+
+    // What is read along a path in the record.
+    fn read_along(
+        &self,
+        alloc: Global,
+        path: &[PathElement<'_>],
+    ) -> Result<Option<Value<'a>>, MaxMindDbError>
+        ensures { IsReadAs (reads_in value_found (data_section self.now.reader.now)
+            self.now.offset path.now) result }
+    {
+        match self.found() {
+            Some(found) => value_along(alloc, &found, path),
+            None => Ok(None),
+        }
+    }
+
+    // The same, but of a map or an array no more than its header.
+    fn outline_along(
+        &self,
+        alloc: Global,
+        path: &[PathElement<'_>],
+    ) -> Result<Option<Value<'a>>, MaxMindDbError>
+        ensures { IsReadAs (reads_in outline_found (data_section self.now.reader.now)
+            self.now.offset path.now) result }
+    {
+        match self.found() {
+            Some(found) => outline_along(alloc, &found, path),
+            None => Ok(None),
+        }
+    }
+}
+
+// A key with one more digit, which says where a database has a record; none where it is too large.
+fn longer_key(section: &[u8], key: Option<usize>, offset: Option<usize>) -> Option<usize>
+    ensures { IfSome result (IsLonger key section.now offset) }
+{
+    let digit = match offset {
+        Some(offset) if offset < section.len() => offset + 1,
+        Some(_) => return None,
+        None => 0,
+    };
+    key?.checked_mul(section.len().checked_add(1)?)?
+        .checked_add(digit)
+}
+
+// Whether a block is to be one of IPv4, and lies there.
+fn is_of_ipv4(block: Block, is_ipv4: bool) -> bool
+    ensures { IsTrue result ↔ IsOfIpv4 is_ipv4 block }
+{
+    is_ipv4 && block.prefix >= 96 && block.first < 1 << 32
+}
+
+// The numbers of the network that a block is: one of IPv4, where it is to be and lies there.
+fn numbers_of(block: Block, is_ipv4: bool) -> NumberedNetwork
+    requires { IsBlock block }
+    ensures within { result.prefix ≤ result.width }
+    ensures small { result.width ≤ 128 }
+    ensures is_width { nat_eq result.width 32 ≡ false → result.width ≡ 128 }
+    ensures fits { result.first < 2 ^ result.width }
+    ensures kind { IsTrue (nat_eq result.width 32) ↔ IsOfIpv4 is_ipv4 block }
+    ensures zeros { HasZerosAfter result.width result.prefix result.first }
+    ensures bits { zero_bits (128 - result.width) ++ take result.prefix
+        (bits_of result.width result.first) ≡ take block.prefix (bits_of 128 block.first) }
+{
+    let prefix = usize::from(block.prefix);
+    if is_of_ipv4(block, is_ipv4) {
+        NumberedNetwork {
+            first: block.first,
+            width: 32,
+            prefix: prefix - 96,
+        }
+    } else {
+        NumberedNetwork {
+            first: block.first,
+            width: 128,
+            prefix,
+        }
+    }
+}
+
+// The network that a block is: one of IPv4, where it is to be and lies there.
+fn network_of_block(block: Block, is_ipv4: bool) -> IpNetwork
+    requires { IsBlock block }
+    ensures kind { IsTrue (spec_is_ipv4 (ip_of result)) ↔ IsOfIpv4 is_ipv4 block }
+    ensures bits { network_bits result ≡ take block.prefix (bits_of 128 block.first) }
+    ensures masked { IsMaskedIp (ip_of result) (prefix_of result) (ip_of result) }
+{
+    network_of(numbers_of(block, is_ipv4))
+}
+
+/// What several databases have in a block in which each of them has one answer.
+#[derive(Drop)]
+pub struct Segment<'a, S: AsSlice<u8> + Drop> {
+    pub(crate) network: IpNetwork,
+    pub(crate) records: Vec<DatabaseRecord<'a, S>>,
+    ghost masked: { IsMaskedIp (ip_of network) (prefix_of network) (ip_of network) },
+}
+
+impl<'a, S: AsSlice<u8> + Drop> Segment<'a, S> {
+    /// Of a block, and the records there. It is one of IPv4, where it is to be and lies there.
+    pub(crate) fn new(
+        block: Block,
+        is_ipv4: bool,
+        records: Vec<DatabaseRecord<'a, S>>,
+    ) -> Segment<'a, S>
+        requires { IsBlock block }
+        ensures kind { IsTrue (spec_is_ipv4 (ip_of result.network)) ↔ IsOfIpv4 is_ipv4 block }
+        ensures bits { network_bits result.network
+            ≡ take block.prefix (bits_of 128 block.first) }
+        ensures records { result.records.items ≡ records.entry.items }
+    {
+        Segment {
+            network: network_of_block(block, is_ipv4),
+            records,
+        }
+    }
+}
+
+/// Several databases.
+impl<'a, S: AsSlice<u8> + Drop> Answer for Segment<'a, S> {
+    ghost use Rattle.mmdb_query.specs.Segments.{sections_of, offsets_of};
+
+    ghost sections = { λ s. sections_of s.records.items };
+
+    ghost had = { λ s. record {
+      bits = network_bits s.network;
+      as_ipv4 = spec_is_ipv4 (ip_of s.network);
+      offsets = offsets_of s.records.items;
+    } };
+
+    #[inline(always)]
+    fn network(&self) -> IpNetwork {
+        self.network
+    }
+
+    #[inline(always)]
+    fn key(&self) -> Option<usize> {
+        let mut key = Some(0);
+        for one in &self.records {
+            key = longer_key(one.reader.data_section(), key, one.offset);
+        }
+        key
+    }
+
+    #[inline(always)]
+    fn offset(&self, place: usize) -> Option<usize> {
+        if place >= self.records.len() {
+            return None;
+        }
+        self.records[place].offset
+    }
+
+    #[inline(always)]
+    fn has_record(&self) -> bool {
+        for one in &self.records {
+            if one.offset.is_some() {
+                return true;
+            }
+        }
+        false
+    }
+
+    #[inline(always)]
+    fn read_along(
+        &self,
+        alloc: Global,
+        path: &[PathElement<'_>],
+    ) -> Result<Option<Value<'_>>, MaxMindDbError> {
+        for one in &self.records {
+            match one.read_along(alloc, path) {
+                Ok(None) => {}
+                Ok(Some(value)) => return Ok(Some(value)),
+                Err(error) => return Err(error),
+            }
+        }
+        Ok(None)
+    }
+
+    #[inline(always)]
+    fn outline_along(
+        &self,
+        alloc: Global,
+        path: &[PathElement<'_>],
+    ) -> Result<Option<Value<'_>>, MaxMindDbError> {
+        for one in &self.records {
+            match one.outline_along(alloc, path) {
+                Ok(None) => {}
+                Ok(Some(value)) => return Ok(Some(value)),
+                Err(error) => return Err(error),
+            }
+        }
+        Ok(None)
+    }
+}
