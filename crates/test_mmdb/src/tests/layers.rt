@@ -497,7 +497,7 @@ fn rows_of_one_unread_record(rt: HostRuntime) {
             lines.push_str(line).expect(&rt, "memory");
         }
         let run = run_over(rt.alloc(), &files, words, lines.as_str(), false);
-        let is_named = run.err().contains(*last) && !run.err().contains("row 11: ");
+        let is_named = run.err().contains(*last) && !run.err().contains("mmdb: row 11: ");
         assert_of(
             &rt,
             words,
