@@ -66,7 +66,7 @@ complete -c mmdb -n '__mmdb_is enrich' -l anywhere -d 'The address may stand any
 complete -c mmdb -n '__mmdb_is enrich' -l exact -d 'An address counts only where the cell holds nothing else'
 complete -c mmdb -n '__mmdb_is enrich' -l no-quotes -d 'With --delimiter: quotes mean nothing, and each line is a row'
 complete -c mmdb -n '__mmdb_is enrich' -l strict -d 'Status 1 where a line got no answer, or something was warned of'
-complete -c mmdb -n '__mmdb_is enrich' -l quiet -d 'No notes on standard error'
+complete -c mmdb -n '__mmdb_is enrich' -l quiet -d 'No notes on standard error but of what sets the status'
 complete -c mmdb -n '__mmdb_is enrich' -l reload -d 'Use a database that is replaced meanwhile, within a second'
 complete -c mmdb -n '__mmdb_is enrich' -l output -r -F -d 'Write to this file, which is replaced when all is done, and else stays as it was'
 complete -c mmdb -n '__mmdb_is enrich' -s h -l help -d 'Print help'

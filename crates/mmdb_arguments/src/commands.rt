@@ -461,7 +461,10 @@ const READING: &[Usage] = &[
                 "strict",
                 "Status 1 where a line got no answer, or something was warned of",
             ),
-            Argument::Flag("quiet", "No notes on standard error"),
+            Argument::Flag(
+                "quiet",
+                "No notes on standard error but of what sets the status",
+            ),
             Argument::Flag(
                 "reload",
                 "Use a database that is replaced meanwhile, within a second",

@@ -1,6 +1,6 @@
 //! Which fields that no record of the lines had other records of databases have.
 use mmdb_console::wanted_path;
-use mmdb_layout::{Database, FieldsMet, networks_in};
+use mmdb_layout::{Database, Found, ReadAlong, has_few_networks_in, networks_in};
 use mmdb_reader::{MaxMindDbError, PathElement};
 use std::alloc::{AllocError, Global};
 use std::collections::HashSet;
@@ -18,39 +18,61 @@ fn paths_of<'p>(alloc: Global, texts: &[&'p str]) -> Result<Vec<Vec<PathElement<
     Ok(paths)
 }
 
-// Looks at each record of a database, until all fields are met. An `Err` where its tree or a leaf of it can't be read.
-fn look_through(
+// Marks the fields at paths that a record has. One that can't be read has none.
+fn mark(
     alloc: Global,
-    database: &Database,
+    found: &Found<'_>,
     paths: &[Vec<PathElement<'_>>],
-    met: &mut FieldsMet,
-) -> Result<(), MaxMindDbError> {
-    database.verify(alloc)?;
-    let mut seen = HashSet::new(alloc);
-    for item in networks_in(alloc, database, None)? {
-        let found = item?;
-        if let Some(offset) = found.offset()
-            && seen.insert(offset)?
-        {
-            met.look(&found, paths);
-            if met.are_all_met() {
-                return Ok(());
+    are_met: &mut [bool],
+) -> Result<(), AllocError> {
+    for (is_met, path) in are_met.iter_mut().zip(paths) {
+        if !*is_met {
+            match found.outline_along(alloc, path.as_slice()) {
+                Ok(value) => *is_met = value.is_some(),
+                Err(MaxMindDbError::Memory) => return Err(AllocError),
+                Err(_) => {}
             }
         }
     }
     Ok(())
 }
 
-/// Which of the fields at these paths a record of the databases has. One that is not whole is not looked through.
+// Marks the fields at paths that records of a database have, each looked at once, until all are. None of one whose tree leads to
+// more networks than its nodes can have.
+fn look_through(
+    alloc: Global,
+    database: &Database,
+    paths: &[Vec<PathElement<'_>>],
+    are_met: &mut [bool],
+) -> Result<(), MaxMindDbError> {
+    if !has_few_networks_in(alloc, database, None)? {
+        return Ok(());
+    }
+    let mut seen = HashSet::new(alloc);
+    for item in networks_in(alloc, database, None)? {
+        if let Ok(found) = item
+            && let Some(offset) = found.offset()
+            && seen.insert(offset)?
+        {
+            mark(alloc, &found, paths, are_met)?;
+            if are_met.iter().all(|is_met| *is_met) {
+                break;
+            }
+        }
+    }
+    Ok(())
+}
+
+/// Which of the fields at these paths a record of the databases has. An `Err` where there is no memory to see it.
 pub(crate) fn fields_met(
     alloc: Global,
     databases: &[Database],
     texts: &[&str],
-) -> Result<FieldsMet, AllocError> {
+) -> Result<Vec<bool>, MaxMindDbError> {
     let paths = paths_of(alloc, texts)?;
-    let mut met = FieldsMet::new(alloc, paths.len())?;
+    let mut are_met = vec![in alloc; false; paths.len()]?;
     for database in databases {
-        let _ = look_through(alloc, database, paths.as_slice(), &mut met);
+        look_through(alloc, database, paths.as_slice(), are_met.as_mut_slice())?;
     }
-    Ok(met)
+    Ok(are_met)
 }

@@ -10,6 +10,7 @@ use mmdb_arguments::EnrichArguments;
 use mmdb_console::{Console, DONE, FAILED, line_of};
 use mmdb_filter::{Counts, Rows};
 use mmdb_layout::{Database, RecordAt, absent_text};
+use mmdb_reader::MaxMindDbError;
 use std::alloc::{AllocError, Global};
 use std::convert::AsSlice;
 use std::io::Write;
@@ -75,6 +76,31 @@ impl<S: AsSlice<u8> + Drop> Remembering for LayeredJsonMemory<'_, S> {
     }
 }
 
+/// Which rows passed.
+#[derive(Clone, Copy)]
+enum Passed {
+    SoFar,
+    All,
+}
+
+impl Passed {
+    // What stands behind `no line`.
+    fn so_far(self) -> &'static str {
+        match self {
+            Passed::SoFar => " so far",
+            Passed::All => "",
+        }
+    }
+
+    // Whose records are those of these rows.
+    fn whose(self) -> &'static str {
+        match self {
+            Passed::SoFar => "none of the lines' records so far",
+            Passed::All => "none of the lines' records",
+        }
+    }
+}
+
 /// What is said of rows, and whether some of it is a failure.
 #[derive(Drop)]
 pub(crate) struct Warnings<'a> {
@@ -112,16 +138,23 @@ fn separators(alloc: Global, rows: Rows) -> Result<String, AllocError> {
 }
 
 // That no row had an address.
-fn no_address(alloc: Global, place: AddressPlace<'_>) -> Result<String, AllocError> {
+fn no_address(
+    alloc: Global,
+    place: AddressPlace<'_>,
+    passed: Passed,
+) -> Result<String, AllocError> {
+    let so_far = passed.so_far();
     match place {
         AddressPlace::Column { text, rows } => {
             let separators = separators(alloc, rows)?;
             format!(in alloc;
-                "mmdb: no line had an address in column {text}; columns are separated by {separators} here: see --delimiter, --anywhere"
+                "mmdb: no line{so_far} had an address in column {text}; columns are separated by {separators} here: see --delimiter, --anywhere"
             )
         }
-        AddressPlace::Anywhere => String::from_str(alloc, "mmdb: no line had an address"),
-        AddressPlace::Member(path) => format!(in alloc; "mmdb: no object had an address at {path}"),
+        AddressPlace::Anywhere => format!(in alloc; "mmdb: no line{so_far} had an address"),
+        AddressPlace::Member(path) => {
+            format!(in alloc; "mmdb: no object{so_far} had an address at {path}")
+        }
     }
 }
 
@@ -211,10 +244,15 @@ impl<'a> Warnings<'a> {
     }
 
     // Says that no row had an address, once.
-    fn say_no_address<O: Write, E: Write>(&mut self, console: &mut Console<'_, O, E>) {
+    fn say_no_address<O: Write, E: Write>(
+        &mut self,
+        passed: Passed,
+        console: &mut Console<'_, O, E>,
+    ) {
         if !self.has_said_no_address {
             self.has_said_no_address = true;
-            console.note(line_of(console.alloc, no_address(console.alloc, self.place)));
+            let text = no_address(console.alloc, self.place, passed);
+            console.note(line_of(console.alloc, text));
         }
     }
 
@@ -259,7 +297,7 @@ impl<'a> Warnings<'a> {
     // Says what is amiss with the rows that passed, of which records are such, and was not said.
     fn say<O: Write, E: Write>(
         &mut self,
-        whose: &str,
+        passed: Passed,
         counts: Counts,
         records: &Records,
         databases: &[Database],
@@ -270,10 +308,10 @@ impl<'a> Warnings<'a> {
             return;
         }
         if had_no_address(counts) {
-            self.say_no_address(console);
+            self.say_no_address(passed, console);
         }
         if counts.found > 0 {
-            self.say_missing(whose, records, databases, console);
+            self.say_missing(passed.whose(), records, databases, console);
         } else if self.has_nowhere() {
             self.say_missing("no record", records, databases, console);
         }
@@ -287,13 +325,7 @@ impl<'a> Warnings<'a> {
         databases: &[Database],
         console: &mut Console<'_, O, E>,
     ) {
-        self.say(
-            "none of the lines' records so far",
-            counts,
-            records,
-            databases,
-            console,
-        );
+        self.say(Passed::SoFar, counts, records, databases, console);
     }
 
     // Whether one of the fields is known to be in no record.
@@ -307,7 +339,7 @@ impl<'a> Warnings<'a> {
         alloc: Global,
         records: &Records,
         databases: &[Database],
-    ) -> Result<(), AllocError> {
+    ) -> Result<(), MaxMindDbError> {
         let mut missing = Vec::new(alloc);
         for (at, field) in self.fields.iter().enumerate() {
             if !is_met(records, at) {
@@ -318,11 +350,10 @@ impl<'a> Warnings<'a> {
             return Ok(());
         }
         let met = fields_met(alloc, databases, missing.as_slice())?;
-        let mut place = 0usize;
+        let mut met = met.iter();
         for (at, field) in self.fields.iter_mut().enumerate() {
             if !is_met(records, at) {
-                field.is_nowhere = !met.is_met(place);
-                place = place.saturating_add(1);
+                field.is_nowhere = !matches!(met.next(), Some(true));
             }
         }
         Ok(())
@@ -341,20 +372,14 @@ impl<'a> Warnings<'a> {
             && self
                 .find_nowhere(console.alloc, records, databases)
                 .is_err();
-        self.say(
-            "none of the lines' records",
-            counts,
-            records,
-            databases,
-            console,
-        );
-        self.has_warned |= records.wider > 0
-            || records.long > 0
-            || is_unknown
-            || self.has_nowhere();
+        self.say(Passed::All, counts, records, databases, console);
+        let is_of_counts = is_unanswered(counts) || records.wider > 0 || records.long > 0;
+        self.has_warned |= is_of_counts || is_unknown || self.has_nowhere();
+        // what sets the status is said in any case
+        self.says_counts |= self.is_strict && (is_of_counts || is_unknown);
     }
 
-    /// Says how the rows fared, and answers the status: `unasked` of those with an error have an address that no database can
+    /// Says how the rows fared, and answers the status. All is said of them before: `unasked` of those with an error have an address that no database can
     /// be asked for.
     pub(crate) fn end<O: Write, E: Write>(
         &self,
@@ -366,8 +391,7 @@ impl<'a> Warnings<'a> {
         if self.says_counts {
             console.note(text);
         }
-        let has_failed = self.has_warned || is_unanswered(counts);
-        if counts.rejected > unasked || self.is_strict && has_failed {
+        if counts.rejected > unasked || self.is_strict && self.has_warned {
             FAILED
         } else {
             DONE

@@ -97,9 +97,9 @@ impl FileSearch<'_> {
         self.left.is_empty()
     }
 
-    /// Whether there are some, and no network has any of them.
+    /// Whether no network has any of the values. A file that has none is one of these, but where they would leave out networks.
     pub(crate) fn is_all_missing(&self) -> bool {
-        !self.is_done() && self.left.len() == self.count
+        self.left.len() == self.count && (self.count > 0 || self.wanted != Requirement::NoneOf)
     }
 
     /// Whether some network has one of the values, of those of which this is wanted at this path.
@@ -195,21 +195,26 @@ impl FileSearch<'_> {
     // What is said of the values that no network has.
     fn line(&self, alloc: Global, is_of_part: bool, hint: &str) -> Result<String, AllocError> {
         let (missing, count, condition) = (self.left.len(), self.count, self.condition);
+        let lines = self.name_of_lines();
+        if count == 0 {
+            return format!(in alloc; "mmdb: {condition}: there are no {lines}{hint}");
+        }
         let of = if is_of_part { " that is asked for" } else { "" };
-        let (lines, names) = (self.name_of_lines(), self.names(alloc)?);
+        let names = self.names(alloc)?;
         format!(in alloc;
             "mmdb: {condition}: no network{of} has {missing} of the {count} {lines}:{names}{hint}"
         )
     }
 
-    /// Reports the values that no network has, the first of them by name, and what lets a list be written without them.
+    /// Reports the values that no network has, the first of them by name, or that there are none, and what lets a list be written
+    /// without them.
     pub(crate) fn report<O: Write, E: Write>(
         &self,
         is_of_part: bool,
         hint: &str,
         console: &mut Console<'_, O, E>,
     ) {
-        if !self.is_done() {
+        if !self.is_done() || self.is_all_missing() {
             let line = self.line(console.alloc, is_of_part, hint);
             console.note(line_of(console.alloc, line));
         }

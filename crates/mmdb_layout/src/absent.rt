@@ -167,14 +167,6 @@ impl FieldsMet {
         self.are_met.iter().all(|is_met| *is_met)
     }
 
-    /// Whether a field is met, by its place among them.
-    pub fn is_met(&self, field: usize) -> bool {
-        match self.are_met.get(field) {
-            Some(is_met) => *is_met,
-            None => false,
-        }
-    }
-
     /// Takes the fields for met that are met elsewhere.
     pub fn join(&mut self, elsewhere: &FieldsMet) {
         for (is_met, is_met_there) in self.are_met.iter_mut().zip(&elsewhere.are_met) {

@@ -16,9 +16,9 @@ fn all_of(database: &Database) -> Result<IpNetwork, MaxMindDbError> {
     Ok(IpNetwork::new(first, 0)?)
 }
 
-// Whether the tree of a database leads to no more networks in a range, or in all, than its nodes can have. A range that can't be
-// asked has none.
-fn has_few(
+/// Whether the tree of a database leads to no more networks in a range, or in all, than its nodes can have: else going through
+/// them might not end. A range that can't be asked has none. An `Err` is of memory.
+pub fn has_few_networks_in(
     alloc: Global,
     database: &Database,
     range: Option<IpNetwork>,
@@ -41,7 +41,7 @@ pub fn can_be_walked<O: Write, E: Write>(
     range: Option<IpNetwork>,
     console: &mut Console<'_, O, E>,
 ) -> Result<bool, MaxMindDbError> {
-    if has_few(console.alloc, database, range)? {
+    if has_few_networks_in(console.alloc, database, range)? {
         return Ok(true);
     }
     let text = format!(in console.alloc;

@@ -22,7 +22,7 @@ pub use condition::{Condition, Requirement, is_number_of, split_condition};
 pub use database::{
     Database, Found, Networks, Opened, networks_in, open_at, open_database, open_found, path_or,
 };
-pub use few::can_be_walked;
+pub use few::{can_be_walked, has_few_networks_in};
 pub use fields::{ChosenFields, DefaultName, fields_of, path_texts};
 pub use layout::{Layout, NETWORK, layout_of, line_of_cells, line_of_names, write_values};
 pub use mapped::range_asked;

@@ -463,6 +463,49 @@ const OF_VALUES: &[InputRow<'static>] = &[
         &["c.i=@-: no network has 1 of the 1 values: FR"],
         0,
     ),
+    // a file without values is one of which none is met, but leaves out nothing
+    (
+        &["export", "here.mmdb", "--where", "c.i=@-", "--format", "pf"],
+        "\n# none\n",
+        "",
+        &["c.i=@-: there are no values; --allow-empty writes an empty list"],
+        1,
+    ),
+    (
+        &["export", "here.mmdb", "--where", "c.i=AT", "--where", "c.i=@-", "--format", "pf"],
+        "",
+        "",
+        &["c.i=@-: there are no values; --allow-missing goes on without them"],
+        1,
+    ),
+    (
+        &["export", "here.mmdb", "--where", "c.i=AT", "--where-contains", "c.i=@-", "--format", "pf", "--allow-missing"],
+        "",
+        "",
+        &["c.i=@-: there are no texts\n"],
+        1,
+    ),
+    (
+        &["export", "here.mmdb", "--where", "c.i=AT", "--where", "c.i=@-", "--format", "pf", "--allow-missing"],
+        "",
+        "64.0.0.0/3\n",
+        &["c.i=@-: there are no values\n"],
+        0,
+    ),
+    (
+        &["export", "here.mmdb", "--where", "c.i=@-", "--format", "cidr"],
+        "",
+        "",
+        &["c.i=@-: there are no values\n"],
+        0,
+    ),
+    (
+        &["export", "here.mmdb", "--where", "c.i=AT", "--where-not", "c.i=@-", "--format", "pf"],
+        "",
+        "64.0.0.0/3\n",
+        &[],
+        0,
+    ),
     // within a kind of addresses it may be missing alone
     (
         &["export", "here.mmdb", "--where", "c.i=AT", "--where-not", "c.i=FR", "--format", "pf", "--ipv4"],

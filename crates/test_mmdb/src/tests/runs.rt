@@ -1,4 +1,6 @@
 //! Runs of the program.
+use super::exports::file_of_nodes;
+use super::lists::{DAMAGED, DATA};
 use super::program::{Run, assert_of, run_of};
 use mmdb_vectors::base::BASE_FILE;
 use mmdb_vectors::builder::{BASE_DATA, BASE_NODE, Changes, Field, changed_file};
@@ -490,7 +492,10 @@ const NOTES: &[Notes<'static>] = &[
     (&["enrich", "here.mmdb", "--field", "", "--quiet"], "none\n", 0, ""),
     // an address without a record is no failure; what got no answer is one with --strict
     (&["enrich", "here.mmdb", "--field", "", "--strict", "--quiet"], "200.0.0.1\n1.1.1.1\n", 0, ""),
-    (&["enrich", "here.mmdb", "--field", "", "--strict", "--quiet"], "200.0.0.1\nnone\n", 1, ""),
+    (
+        &["enrich", "here.mmdb", "--field", "", "--strict", "--quiet"], "200.0.0.1\nnone\n", 1,
+        "mmdb: 1 lines with a record, 0 without, 1 without an address, 0 with an error\n",
+    ),
     (&["enrich", "here.mmdb", "--field", "", "--quiet"], "200.0.0.1\nnone\n", 0, ""),
     (&["enrich", "here.mmdb", "--field", "", "--quiet"], "200.0.0.1\n::1\n", 0, ""),
     // a field that no record has is a failure with --strict, also where no row had a record, but not where there was no row
@@ -503,11 +508,20 @@ const NOTES: &[Notes<'static>] = &[
     (&["enrich", "here.mmdb", "--json", "i", "--field", "a", "--strict", "--quiet"], "{\"i\":\"1.1.1.1\"}\n", 1, "mmdb: no record has a\n"),
     (&["enrich", "here.mmdb", "--field", "a", "--quiet"], "1.1.1.1\n200.0.0.1\n", 0, ""),
     (&["enrich", "here.mmdb", "--field", "a", "--strict", "--quiet"], "", 0, ""),
-    (&["enrich", "here.mmdb", "--json", "a", "--strict", "--quiet"], "{\"a\":\"200.0.0.1\"}\n[]\n", 1, ""),
+    (
+        &["enrich", "here.mmdb", "--json", "a", "--strict", "--quiet"], "{\"a\":\"200.0.0.1\"}\n[]\n", 1,
+        "mmdb: 1 lines with a record, 0 without, 0 without an address, 0 with an error, 1 not objects of JSON\n",
+    ),
     (&["enrich", "here.mmdb", "--json", "a", "--quiet"], "{\"a\":\"200.0.0.1\"}\n[]\n", 0, ""),
-    (&["enrich", "here.mmdb", "--json", "a", "--strict", "--quiet"], "{\"a\":\"200.0.0.1\"}\n{\"a\":\"200.0.0.1\",\"geo\":1}\n", 1, ""),
+    (
+        &["enrich", "here.mmdb", "--json", "a", "--strict", "--quiet"], "{\"a\":\"200.0.0.1\"}\n{\"a\":\"200.0.0.1\",\"geo\":1}\n", 1,
+        "mmdb: 1 lines with a record, 0 without, 0 without an address, 0 with an error, 0 not objects of JSON, 1 with a member geo already, the first in row 2\n",
+    ),
     (&["enrich", "here.mmdb", "--json", "a", "--quiet"], "{\"a\":\"200.0.0.1\",\"geo\":1}\n", 0, ""),
-    (&["enrich", "here.mmdb", "--field", "", "--header", "--strict", "--quiet"], "ip\n200.0.0.1\t1\n", 1, ""),
+    (
+        &["enrich", "here.mmdb", "--field", "", "--header", "--strict", "--quiet"], "ip\n200.0.0.1\t1\n", 1,
+        "mmdb: 1 lines with a record, 0 without, 0 without an address, 0 with an error, 1 with more cells than the first line, the first in row 2\n",
+    ),
     (
         &["enrich", "here.mmdb", "--field", "", "--strict"], "200.0.0.1\n::1\n", 1,
         "mmdb: row 2: invalid input: cannot look up IPv6 address in IPv4-only database\nmmdb: 1 lines with a record, 0 without, 0 without an address, 1 with an error\n",
@@ -536,17 +550,36 @@ fn files_described(rt: HostRuntime) {
     assert_runs(&rt, rt.alloc(), BASE_FILE, INFORMED);
 }
 
+// Asserts the status of runs over a file, and all that is said of them.
+fn assert_notes(rt: &impl Abort, alloc: Global, bytes: &[u8], all: &[Notes<'_>]) {
+    for (words, lines, status, said) in all {
+        let run = run_of(alloc, bytes, words, lines);
+        let holds = run.status == *status && run.err() == *said;
+        assert_of(rt, words, &run, holds);
+    }
+}
+
 #[test]
 fn lines_with_notes(rt: HostRuntime) {
-    for (words, lines, status, said) in NOTES {
-        let run = run_of(rt.alloc(), BASE_FILE, words, lines);
-        assert_of(
-            &rt,
-            words,
-            &run,
-            run.status == *status && run.err() == *said,
-        );
-    }
+    assert_notes(&rt, rt.alloc(), BASE_FILE, NOTES);
+}
+
+/// Where some records can't be read: a field is in no record, or in others than those of the lines.
+#[rattlefmt::skip]
+const BESIDE_UNREAD: &[Notes<'static>] = &[
+    (&["enrich", "here.mmdb", "--field", "c.i", "--strict", "--quiet"], "64.0.0.1\n", 0, ""),
+    (&["enrich", "here.mmdb", "--field", "n", "--field", "c.i", "--strict", "--quiet"], "192.0.0.1\n", 0, ""),
+    (
+        &["enrich", "here.mmdb", "--field", "c.i", "--field", "zz", "--strict", "--quiet"], "64.0.0.1\n", 1,
+        "mmdb: none of the lines' records has zz\n",
+    ),
+    (&["enrich", "here.mmdb", "--field", "zz", "--strict", "--quiet"], "192.0.0.1\n", 1, "mmdb: no record has zz\n"),
+];
+
+#[test]
+fn fields_of_records_beside_unread_ones(rt: HostRuntime) {
+    let bytes = file_of_nodes(&rt, rt.alloc(), DAMAGED, b"\xC1\x07", DATA);
+    assert_notes(&rt, rt.alloc(), bytes.as_slice(), BESIDE_UNREAD);
 }
 
 #[test]
