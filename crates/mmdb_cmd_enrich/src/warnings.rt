@@ -168,6 +168,11 @@ fn has_asked(counts: Counts) -> bool {
     counts.found > 0 || counts.absent > 0 || counts.rejected > 0 || counts.occupied > 0
 }
 
+// Whether databases could be asked for an address. Of those with an error so many could not.
+fn could_ask(counts: Counts, unasked: u64) -> bool {
+    counts.found > 0 || counts.absent > 0 || counts.occupied > 0 || counts.rejected > unasked
+}
+
 // Whether a row got no answer that it asked for. An address without a record is an answer.
 fn is_unanswered(counts: Counts) -> bool {
     let Counts {
@@ -256,21 +261,27 @@ impl<'a> Warnings<'a> {
         }
     }
 
-    // Says which fields no such record has, each once: where only what sets the status is said, those that no record has.
+    // Says which fields no such record has, each once: all of them, or those that no record of the databases has.
     fn say_missing<O: Write, E: Write>(
         &mut self,
         whose: &str,
+        says_all: bool,
         records: &Records,
         databases: &[Database],
         console: &mut Console<'_, O, E>,
     ) {
         let alloc = console.alloc;
         for (at, field) in self.fields.iter_mut().enumerate() {
-            let is_to_say = self.says_counts || field.is_nowhere;
+            let is_to_say = says_all || field.is_nowhere;
             if self.said < MOST_SAID && is_to_say && !field.is_said && !is_met(records, at) {
                 field.is_said = true;
                 self.said = self.said.saturating_add(1);
-                let text = missing_text(alloc, whose, field.path, records, databases);
+                let path = if field.path.is_empty() {
+                    "\"\""
+                } else {
+                    field.path
+                };
+                let text = missing_text(alloc, whose, path, records, databases);
                 console.note(line_of(alloc, text));
             }
         }
@@ -311,9 +322,10 @@ impl<'a> Warnings<'a> {
             self.say_no_address(passed, console);
         }
         if counts.found > 0 {
-            self.say_missing(passed.whose(), records, databases, console);
-        } else if self.has_nowhere() {
-            self.say_missing("no record", records, databases, console);
+            let says_all = self.says_counts;
+            self.say_missing(passed.whose(), says_all, records, databases, console);
+        } else {
+            self.say_missing("no record", false, records, databases, console);
         }
     }
 
@@ -368,7 +380,7 @@ impl<'a> Warnings<'a> {
         console: &mut Console<'_, O, E>,
     ) {
         let is_unknown = self.is_strict
-            && has_asked(counts)
+            && could_ask(counts, records.unasked)
             && self
                 .find_nowhere(console.alloc, records, databases)
                 .is_err();

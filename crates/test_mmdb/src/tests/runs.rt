@@ -536,7 +536,7 @@ const NOTES: &[Notes<'static>] = &[
     ),
     (
         &["enrich", "here.mmdb", "--header", "--delimiter", ",", "--field", "", "--strict", "--quiet"], "a\n1.1.1.1,\"b", 1,
-        "mmdb: row 2: a quote is still open at the end of the input; see --no-quotes\n",
+        "mmdb: row 2: a quote is still open at the end of the input; see --no-quotes\nmmdb: 0 lines with a record, 1 without, 0 without an address, 0 with an error, 1 with more cells than the first line, the first in row 2\n",
     ),
 ];
 
@@ -574,7 +574,35 @@ const BESIDE_UNREAD: &[Notes<'static>] = &[
         "mmdb: none of the lines' records has zz\n",
     ),
     (&["enrich", "here.mmdb", "--field", "zz", "--strict", "--quiet"], "192.0.0.1\n", 1, "mmdb: no record has zz\n"),
+    // where no line has a record, it is said of no other field
+    (
+        &["enrich", "here.mmdb", "--field", "c.i", "--field", "zz", "--strict"], "192.0.0.1\n", 1,
+        "mmdb: no record has zz\nmmdb: 0 lines with a record, 1 without, 0 without an address, 0 with an error\n",
+    ),
+    (
+        &["enrich", "here.mmdb", "--field", "zz", "--strict"], "::1\n", 1,
+        "mmdb: row 1: invalid input: cannot look up IPv6 address in IPv4-only database\nmmdb: 0 lines with a record, 0 without, 0 without an address, 1 with an error\n",
+    ),
 ];
+
+/// Seven nodes, of which six lead to the next one twice, and the last to {"n": "7"} and to a record with c.i: 128 networks.
+const DOUBLED: &[(u32, u32)] = &[(1, 1), (2, 2), (3, 3), (4, 4), (5, 5), (6, 6), (54, 23)];
+
+/// Where nothing is looked through, a field is in no record but those of the lines.
+#[rattlefmt::skip]
+const OVER_DOUBLED: &[Notes<'static>] = &[
+    (
+        &["enrich", "here.mmdb", "--field", "c.i", "--strict", "--quiet"], "0.0.0.1\n", 1,
+        "mmdb: none of the lines' records has c.i\n",
+    ),
+    (&["enrich", "here.mmdb", "--field", "c.i", "--strict", "--quiet"], "0.0.0.1\n2.0.0.1\n", 0, ""),
+];
+
+#[test]
+fn fields_of_databases_that_are_not_looked_through(rt: HostRuntime) {
+    let bytes = file_of_nodes(&rt, rt.alloc(), DOUBLED, b"\xC1\x07", DATA);
+    assert_notes(&rt, rt.alloc(), bytes.as_slice(), OVER_DOUBLED);
+}
 
 #[test]
 fn fields_of_records_beside_unread_ones(rt: HostRuntime) {
