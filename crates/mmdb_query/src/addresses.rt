@@ -102,6 +102,10 @@ impl Sink for Addresses {
         self.add(answer.network())?;
         Ok(None)
     }
+
+    fn drop_caches(&mut self) -> bool {
+        false
+    }
 }
 
 /// The addresses of the networks of a walk that meet all conditions; reports each that can't be read, and says how many can't.

@@ -25,7 +25,7 @@ pub returns-in_default-clause-taken : goal.returns-in_default-clause-taken
 returns-in_default-clause-taken g c =
     let s = g.W.Walk.sections c.args.walk.now in
     let a = asks g.C.Conditions.says g.C.Conditions.is_unread g.S.Sink.puts g.S.Sink.is_unread c.args.conditions.now (g.S.Sink.form c.args.sink.now) s in
-    ended g.W.Walk.comes a c.args.walk.now c.loop.walk (g.S.Sink.took c.args.sink.now) (g.S.Sink.took c.loop.sink) (g.O.Write.contents c.args.out.now) (g.O.Write.contents c.loop.out) c.loop.unread c.loop.invariant.way c.in_default.ensures.step
+    ended g.W.Walk.comes a c.args.walk.now c.loop.walk (g.S.Sink.took c.args.sink.now) (g.S.Sink.took c.loop.sink) (g.O.Write.contents c.args.out.now) (g.O.Write.contents c.loop.out) c.loop.unread c.loop.counter c.loop.invariant.way c.in_default.ensures.step
 
 pub loop-preserved : goal.loop-preserved
 loop-preserved g c =
@@ -50,7 +50,7 @@ loop-preserved g c =
     let few = i.few in
     let once = c.in_ok-unread.ensures.few in
     record {
-      way = step_taken g.W.Walk.comes of s sections had item c.args.walk.now c.loop.walk c.next_item.new.self old one new before at after c.loop.unread added i.way c.in-Some.ensures.step same takes;
+      way = step_taken g.W.Walk.comes of s sections had item c.args.walk.now c.loop.walk c.next_item.new.self old one new before at after c.loop.unread added c.loop.counter i.way c.in-Some.ensures.step same takes;
       choice = fits_on sections (ChoiceFits g.C.Conditions.says) s item c.loop.choice c.put_item.new.choice same i.choice c.put_item.ensures.choice;
       sink = fits_on sections g.S.Sink.fits s item c.loop.sink c.put_item.new.sink same i.sink c.put_item.ensures.sink;
       conditions = c.put_item.ensures.same ∙ i.conditions;
