@@ -114,6 +114,9 @@ module _ {W X : Type 0} (comes : W → List Item → Type 0) (a : Asked X) where
     written = subst (Appends before after) (append-nil way.text) (Appends-trans before at after way.text [] way.written none);
   }
 
+  pub none_begun : (first : W) (old : X) (before : Option (List ℕ)) → Begins comes a first old before before
+  none_begun first old before = begun first first old old before before before 0 0 (started first old before) (Appends-nil before)
+
   pub ended_early : (first now : W) (old one : X) (before at after : Option (List ℕ)) (faults count : ℕ) (e : QueryError) → UnderWay comes a first now old one before at faults count
       → WritesNone at after e → EndsBy comes a first old before after e
   ended_early first now old one before at after faults count ends.Memory way none = begun first now old one before at after faults count way none

@@ -23,8 +23,8 @@ const STEP: u64 = 1 << 16;
 // Says now and then how many networks passed.
 #[inline(always)]
 fn tell<F: Faults>(passed: u64, faults: &mut F) {
-    if passed % STEP == STEP - 1 {
-        faults.passed(passed + 1);
+    if passed % STEP == 0 {
+        faults.passed(passed);
     }
 }
 
@@ -219,14 +219,18 @@ pub fn put_each<W: Walk, S: Sink, C: Conditions, O: Write, F: Faults>(
         (O.contents out.old) (O.contents out.new)) }
     ensures form { S.form sink.new ≡ S.form sink.old }
 {
-    let mut choice = Choice::new(alloc, conditions)?;
+    let Ok(mut choice) = Choice::new(alloc, conditions) else {
+        return Err(QueryError::Memory);
+    };
     let mut last = None;
     let mut unread = 0;
-    for passed in 0..u64::MAX {
+    let mut passed = 0u64;
+    for _ in 0..u64::MAX {
         let Some(item) = walk.next_item() else {
             return Ok(unread);
         };
         unread += put_item(&mut choice, sink, item, &mut last, out, faults)?;
+        passed = passed.wrapping_add(1);
         tell(passed, faults);
     }
     Err(QueryError::TooMany)

@@ -102,6 +102,8 @@ pub(crate) fn report<O: Write, F: Faults>(
         return Err(QueryError::Memory);
     }
     flush(out)?;
-    faults.report(place, error)?;
-    Ok(1)
+    match faults.report(place, error) {
+        Ok(()) => Ok(1),
+        Err(_) => Err(QueryError::Memory),
+    }
 }

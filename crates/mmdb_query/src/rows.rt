@@ -218,6 +218,8 @@ pub fn export_rows<W: Walk, T: Template, C: Conditions, O: Write, F: Faults>(
         template.now (W.sections walk.old)) walk.old nothing
         (O.contents out.old) (O.contents out.new)) }
 {
-    let mut rows = Rows::new(alloc, template)?;
+    let Ok(mut rows) = Rows::new(alloc, template) else {
+        return Err(QueryError::Memory);
+    };
     put_each(alloc, walk, conditions, &mut rows, out, faults)
 }
