@@ -24,7 +24,7 @@ pub use addresses::{Addresses, gather, gather_all};
 pub use answer::Answer;
 pub use choice::{Choice, Conditions};
 pub use each::put_each;
-pub use error::{Faults, QueryError};
+pub use error::{Faults, Place, QueryError};
 pub use many::Many;
 pub use rows::{Rows, export_rows};
 pub use segment::Segment;

@@ -2,6 +2,7 @@
 ghost use Rattle.std.specs.Prelude.{◌≡◌, [], IfOk, IfErr, IfSome, OnOk};
 ghost use Rattle.std.specs.Io.KnownBytes.{Appends};
 ghost use Rattle.mmdb_format.specs.Error.{MemoryApart};
+ghost use Rattle.mmdb_query.specs.Ends.{WritesNone, EndsBy};
 ghost use Rattle.mmdb_query.specs.Kept.{RowsFit};
 ghost use Rattle.mmdb_query.specs.Rows.{IsRow, PutsTail, puts_row, nothing};
 ghost use Rattle.mmdb_query.specs.Taking.{asks, Takes};
@@ -132,11 +133,12 @@ pub struct Rows<'a, T: Template> {
 // Writes a row.
 #[inline(always)]
 fn write_line<O: Write>(line: &[u8], out: &mut O) -> Result<(), QueryError>
-    ensures { OnOk result (Appends (O.contents out.old) (O.contents out.new) line.now) }
+    ensures written { OnOk result (Appends (O.contents out.old) (O.contents out.new) line.now) }
+    ensures failed { IfErr result (WritesNone (O.contents out.old) (O.contents out.new)) }
 {
     match out.write_all(line) {
         Ok(()) => Ok(()),
-        Err(error) => Err(QueryError::of_write(error)),
+        Err(error) => Err(QueryError::Write(error)),
     }
 }
 
@@ -188,10 +190,17 @@ impl<'a, T: Template> Sink for Rows<'a, T> {
             Err(error) => Ok(Some(error)),
         }
     }
+
+    #[cold]
+    #[inline(never)]
+    fn drop_caches(&mut self) -> bool {
+        self.maker.kept.clear();
+        true
+    }
 }
 
 /// Writes the rows of the networks of a walk that meet all conditions, reports each that can't be read, and says how many
-/// can't. An `Err` is of the output, of memory, or of a report.
+/// can't. An `Err` is of the output, or of memory: then what was written is of some first networks.
 pub fn export_rows<W: Walk, T: Template, C: Conditions, O: Write, F: Faults>(
     alloc: Global,
     walk: &mut W,
@@ -200,11 +209,17 @@ pub fn export_rows<W: Walk, T: Template, C: Conditions, O: Write, F: Faults>(
     out: &mut O,
     faults: &mut F,
 ) -> Result<u64, QueryError>
-    ensures { IfOk result (λ unread. Takes (W.comes walk.old)
+    ensures rows { IfOk result (λ unread. Takes (W.comes walk.old)
         (asks C.says C.is_unread (puts_row T.front T.is_tail) T.is_unread conditions.now
         template.now (W.sections walk.old)) nothing nothing
         (O.contents out.old) (O.contents out.new) unread) }
+    ensures failed { IfErr result (EndsBy W.comes
+        (asks C.says C.is_unread (puts_row T.front T.is_tail) T.is_unread conditions.now
+        template.now (W.sections walk.old)) walk.old nothing
+        (O.contents out.old) (O.contents out.new)) }
 {
-    let mut rows = Rows::new(alloc, template)?;
+    let Ok(mut rows) = Rows::new(alloc, template) else {
+        return Err(QueryError::Memory);
+    };
     put_each(alloc, walk, conditions, &mut rows, out, faults)
 }

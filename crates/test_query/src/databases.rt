@@ -38,6 +38,12 @@ pub const FAULTY: Tree = Tree {
     count: b"\xC1\x03",
 };
 
+/// 0.0.0.0/2 has A, 64.0.0.0/2 leads outside the data, 128.0.0.0/2 has B.
+pub const FAULTY_BEHIND: Tree = Tree {
+    nodes: &[(1, 2), (19, 200), (24, 3)],
+    count: b"\xC1\x03",
+};
+
 /// 0.0.0.0/1 has A, 128.0.0.0/2 too, 192.0.0.0/3 too, and so on up to 255.255.255.254/32.
 #[rattlefmt::skip]
 pub const RISES: Tree = Tree {
