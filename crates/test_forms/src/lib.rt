@@ -3,5 +3,3 @@
 
 #[cfg(test)]
 mod conditions;
-#[cfg(test)]
-mod databases;
