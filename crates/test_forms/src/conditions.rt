@@ -24,6 +24,7 @@ const FIRST: Tree = [(1, 2), (3, 19), (25, 33)];
 const BROKEN: Tree = [(1, 2), (43, 3), (33, 19)];
 
 /// Nobody is told of networks that can't be read.
+#[derive(Drop)]
 struct Silent;
 
 impl Faults for Silent {
@@ -126,9 +127,10 @@ fn holds(alloc: Global, row: &Row) -> Result<bool, QueryError> {
         readers.push(reader_of(alloc, tree).map_err(|_| QueryError::Memory)?)?;
     }
     if let [reader] = readers.as_slice() {
-        match reader.networks(alloc, WithinOptions::default()) {
-            Ok(mut walk) if come(alloc, &mut walk, row)? => {}
-            _ => return Ok(false),
+        let walk = reader.networks(alloc, WithinOptions::default());
+        let mut walk = walk.map_err(|_| QueryError::Memory)?;
+        if !come(alloc, &mut walk, row)? {
+            return Ok(false);
         }
     }
     come_of_many(alloc, readers.as_slice(), row)
