@@ -55,7 +55,6 @@ const ROWS: &[Row] = &[
     Row { trees: &[FIRST], wanted: &[("c", Requirement::NoneOf, "A1")], blocks: "128.0.0.0/1 0" },
     Row { trees: &[FIRST], wanted: &[("n", Requirement::OneOf, "7.0")], blocks: "128.0.0.0/2 0" },
     Row { trees: &[FIRST], wanted: &[("n", Requirement::Above, "5")], blocks: "128.0.0.0/2 0" },
-    Row { trees: &[FIRST], wanted: &[("n", Requirement::Below, "7")], blocks: "192.0.0.0/2 0" },
     // the last condition counts as much as the first
     Row { trees: &[FIRST], wanted: &[("c", Requirement::Part, "1"), ("n", Requirement::Present, "")], blocks: "192.0.0.0/2 0" },
     Row { trees: &[FIRST], wanted: &[("n", Requirement::Present, ""), ("c", Requirement::Part, "1")], blocks: "192.0.0.0/2 0" },
