@@ -1,0 +1,3 @@
+mod MetLaws
+mod AlongLaws
+mod DecidedLaws

@@ -1,0 +1,3 @@
+-- What contracts of public items name.
+pub mod Met
+pub mod Decided
