@@ -1,15 +1,12 @@
 -- What is wanted of networks.
-use Rattle.std.proofs.Common.{◌≡◌, ◌↔◌, ◌⊎◌, inl, inr, ◌<◌, ◌≤◌, ℕ, ◌+◌, ◌-◌, ◌^◌, Bool, true, false, not, ◌||◌, List, [], ◌∷◌, ◌++◌, Option, Some, None, length, take, drop, refl, sym, ap, ◌∙◌, subst, append_assoc, append-nil, arith, if◌then◌else◌}
+use Rattle.std.proofs.Common.{◌≡◌, ◌↔◌, ◌⊎◌, inl, inr, ◌<◌, ◌≤◌, ℕ, ◌+◌, ◌-◌, ◌^◌, Bool, true, false, ◌||◌, List, [], ◌∷◌, ◌++◌, Option, Some, None, length, take, drop, refl, sym, ap, ◌∙◌, subst, append_assoc, append-nil, arith, if◌then◌else◌}
 use Rattle.std.proofs.Math.Seq.{take-append-add}
-use Rattle.std.proofs.lemmas.List.{length-append, length-take-le, length-take}
+use Rattle.std.proofs.lemmas.List.{length-append, length-take-le}
 use Rattle.std.proofs.lemmas.Slice.Eq.{starts_is}
 use Rattle.std.specs.Bool.{beq, IsTrue}
 use Rattle.std.specs.Cmp.{booleans_Decides}
 use Rattle.std.specs.List.{starts_with}
 use Rattle.std.specs.Net.Addr.{is_ipv4}
-use Rattle.mmdb_format.specs.Error.{MemoryApart}
-use Rattle.mmdb_format.specs.declared.error.MaxMindDbError.{MaxMindDbError}
-use Rattle.mmdb_format.specs.declared.error.MaxMindDbError.TheVariants.{Memory, InvalidDatabase, Io, Decoding, ResourceLimit, InvalidNetwork, InvalidInput}
 use Rattle.mmdb_net.specs.Address.{IsMaskedIp}
 use Rattle.mmdb_net.specs.Bits.{bits_of, zero_bits, IsPrefix}
 use Rattle.mmdb_net.specs.Network.{ip_of, prefix_of, block_of}
@@ -22,9 +19,9 @@ use Rattle.mmdb_blocks.specs.declared.kind.Kinds.{Kinds}
 use Rattle.mmdb_blocks.specs.declared.kind.Kinds.TheVariants.{Both}
 use Rattle.mmdb_query.specs.Abreast.{IsOfIpv4}
 use Rattle.mmdb_query.specs.Had.{Had, IsNetworkOf, network_bits}
-use Rattle.mmdb_query.specs.Parts.{is_wanted, has_range, clipped, parts_of, ComesInPart, IsInRange, IsAnsweredIn, AnswersStay}
-use Rattle.mmdb_query.specs.Sets.{BeginsWith, IsFoundIn}
-use Rattle.mmdb_query.specs.Walks.{Item, Goes}
+use Rattle.mmdb_query.specs.Parts.{is_wanted, has_range, range_in, clipped, parts_of, IsInRange, IsAnsweredIn, AnswersStay}
+use Rattle.mmdb_query.specs.Sets.{BeginsWith}
+use Rattle.mmdb_query.specs.Walks.{Item}
 use Rattle.mmdb_query.specs.Walks.Item.{Found, Unread}
 use Rattle.mmdb_query.proofs.SetLaws.{block_bits, from_bits}
 
@@ -75,7 +72,7 @@ within_bits whole part is other starts =
     let begins = prefix_of_starts (bits_of_block part) (bits_of_block whole) starts in (
       omega (arith, prefix_short (bits_of_block whole) (bits_of_block part) begins, long_block_bits whole is, long_block_bits part other),
       (block_bits whole (bits_of_block whole) part.first is refl other.first).1
-      (prefix_on (bits_of_block whole) (bits_of_block part) (bits_of 128 part.first) begins (IsPrefix-take part.prefix (bits_of 128 part.first))),
+          (prefix_on (bits_of_block whole) (bits_of_block part) (bits_of 128 part.first) begins (IsPrefix-take part.prefix (bits_of 128 part.first))),
     )
 
 false_unless : (b : Bool) → (b ≡ true → ⊥) → b ≡ false
@@ -144,77 +141,32 @@ pub range_shown : (had : Had) (range network shown : IpNetwork) (part : Block) �
     → has_range had range ≡ true → IsTrue (is_ipv4 (ip_of shown)) ↔ IsOfIpv4 (is_ipv4 (ip_of range) || is_ipv4 (ip_of network)) part
     → network_bits shown ≡ bits_of_block part → IsMaskedIp (ip_of shown) (prefix_of shown) (ip_of shown) → IsNetworkOf (clipped (Some range) had) shown
 range_shown had range network shown part is block bits starts kind made masked =
-    let there : IsNetworkOf (record { bits = network_bits range; as_ipv4 = is_ipv4 (ip_of range) || had.as_ipv4; offsets = had.offsets }) shown =
+    let there : IsNetworkOf (range_in had range) shown =
     record { kind = kind_shown had range network shown part is block bits starts kind; bits = made ∙ bits; masked = masked } in
-    subst (λ b. IsNetworkOf (if b then record { bits = network_bits range; as_ipv4 = is_ipv4 (ip_of range) || had.as_ipv4; offsets = had.offsets } else had) shown) (sym starts) there
+    subst (λ b. IsNetworkOf (if b then range_in had range else had) shown) (sym starts) there
 
 pub network_shown : (had : Had) (range network : IpNetwork) → IsNetworkOf had network → has_range had range ≡ false → IsNetworkOf (clipped (Some range) had) network
 network_shown had range network is lacks =
-    subst (λ b. IsNetworkOf (if b then record { bits = network_bits range; as_ipv4 = is_ipv4 (ip_of range) || had.as_ipv4; offsets = had.offsets } else had) network) (sym lacks) is
-
--- ---- an answer of which a part is handed out
-
-cut_offsets : (b : Bool) (part had : Had) → part.offsets ≡ had.offsets → (if b then part else had).offsets ≡ had.offsets
-cut_offsets true part had same = same
-cut_offsets false part had same = refl
-
-offsets_stay : (range : Option IpNetwork) (had : Had) → (clipped range had).offsets ≡ had.offsets
-offsets_stay None had = refl
-offsets_stay (Some range) had =
-    cut_offsets (has_range had range) (record { bits = network_bits range; as_ipv4 = is_ipv4 (ip_of range) || had.as_ipv4; offsets = had.offsets }) had refl
-
-same_had : (had other : Had) → had.bits ≡ other.bits → had.as_ipv4 ≡ other.as_ipv4 → had.offsets ≡ other.offsets → had ≡ other
-same_had had other bits kind offsets =
-    let made : List Bool → Bool → List (Option ℕ) → Had = λ b k o. record { bits = b; as_ipv4 = k; offsets = o } in
-    ap (λ b. made b had.as_ipv4 had.offsets) bits ∙ ap (λ k. made other.bits k had.offsets) kind ∙ ap (λ o. made other.bits other.as_ipv4 o) offsets
-
-pub clipped_is : (range : Option IpNetwork) (had : Had) (network : IpNetwork) → IsNetworkOf (clipped range had) network
-    → record { bits = network_bits network; as_ipv4 = is_ipv4 (ip_of network); offsets = had.offsets } ≡ clipped range had
-clipped_is range had network is =
-    same_had (record { bits = network_bits network; as_ipv4 = is_ipv4 (ip_of network); offsets = had.offsets }) (clipped range had) is.bits is.kind (sym (offsets_stay range had))
-
--- ---- what comes
-
-pub apart_more : {P Q : Type 0} (e : MaxMindDbError) → (P → Q) → MemoryApart e P → MemoryApart e Q
-apart_more Memory more p = tt
-apart_more (InvalidDatabase message offset) more p = more p
-apart_more (Io e) more p = more p
-apart_more (Decoding message offset path) more p = more p
-apart_more (ResourceLimit message offset path) more p = more p
-apart_more (InvalidNetwork e) more p = more p
-apart_more (InvalidInput message) more p = more p
-
-module _ {W : Type 0} (comes : W → List Item → Type 0) (kinds : Kinds) (range : Option IpNetwork) where
-  abbrev pub in_part : W → List Item → Type 0
-  in_part w = ComesInPart kinds range (comes w)
-
-  pub part_left_out : (w v : W) (had : Had) → is_wanted kinds had.as_ipv4 ≡ false → Goes comes w (Found had ∷ []) v → Goes in_part w [] v
-  part_left_out w v had unwanted goes rest (items, come, is) =
-      (Found had ∷ items, goes items come, is ∙ sym (ap (λ b. if b then Found (clipped range had) ∷ parts_of kinds range items else parts_of kinds range items) unwanted))
-
-  pub part_handed : (w v : W) (had : Had) → is_wanted kinds had.as_ipv4 ≡ true → Goes comes w (Found had ∷ []) v → Goes in_part w (Found (clipped range had) ∷ []) v
-  part_handed w v had wanted goes rest (items, come, is) =
-      (Found had ∷ items, goes items come, ap (λ l. Found (clipped range had) ∷ l) is
-      ∙ sym (ap (λ b. if b then Found (clipped range had) ∷ parts_of kinds range items else parts_of kinds range items) wanted))
-
-  pub part_unread : (w v : W) → Goes comes w (Unread ∷ []) v → Goes in_part w (Unread ∷ []) v
-  part_unread w v goes rest (items, come, is) = (Unread ∷ items, goes items come, ap (λ l. Unread ∷ l) is)
-
-  pub part_over : (w : W) → comes w [] → in_part w []
-  part_over w come = ([], come, refl)
+    subst (λ b. IsNetworkOf (if b then range_in had range else had) network) (sym lacks) is
 
 -- ---- what addresses have
 
-cut_begins : (b : Bool) (part had : Had) (address : ℕ) → BeginsWith part.bits address → (b ≡ true → IsPrefix had.bits part.bits)
-    → BeginsWith (if b then part else had).bits address ↔ BeginsWith had.bits address
-cut_begins true part had address inside begins = ((λ _. prefix_on had.bits part.bits (bits_of 128 address) (begins refl) inside), (λ _. inside))
-cut_begins false part had address inside begins = ((λ b. b), (λ b. b))
+cut_offsets : (b : Bool) (range : IpNetwork) (had : Had) → (if b then range_in had range else had).offsets ≡ had.offsets
+cut_offsets true range had = refl
+cut_offsets false range had = refl
+
+offsets_stay : (range : Option IpNetwork) (had : Had) → (clipped range had).offsets ≡ had.offsets
+offsets_stay None had = refl
+offsets_stay (Some range) had = cut_offsets (has_range had range) range had
+
+cut_begins : (b : Bool) (range : IpNetwork) (had : Had) (address : ℕ) → BeginsWith (network_bits range) address → (b ≡ true → IsPrefix had.bits (network_bits range))
+    → BeginsWith (if b then range_in had range else had).bits address ↔ BeginsWith had.bits address
+cut_begins true range had address inside begins = ((λ _. prefix_on had.bits (network_bits range) (bits_of 128 address) (begins refl) inside), (λ _. inside))
+cut_begins false range had address inside begins = ((λ b. b), (λ b. b))
 
 begins_stay : (range : Option IpNetwork) (had : Had) (address : ℕ) → IsInRange range address → BeginsWith (clipped range had).bits address ↔ BeginsWith had.bits address
 begins_stay None had address inside = ((λ b. b), (λ b. b))
-begins_stay (Some range) had address inside =
-    cut_begins (has_range had range) (record { bits = network_bits range; as_ipv4 = is_ipv4 (ip_of range) || had.as_ipv4; offsets = had.offsets }) had address inside
-    (λ starts. prefix_of_starts (network_bits range) had.bits starts)
+begins_stay (Some range) had address inside = cut_begins (has_range had range) range had address inside (λ starts. prefix_of_starts (network_bits range) had.bits starts)
 
 answered_later : (kinds : Kinds) (address : ℕ) (offsets : List (Option ℕ)) (first : Had) (items : List Item)
     → IsAnsweredIn kinds address offsets items → IsAnsweredIn kinds address offsets (Found first ∷ items)
@@ -227,9 +179,13 @@ module _ (kinds : Kinds) (range : Option IpNetwork) (address : ℕ) (offsets : L
   of_first : (b : Bool) (first : Had) (items : List Item) → is_wanted kinds first.as_ipv4 ≡ b
       → (IsAnsweredIn Both address offsets (parts_of kinds range items) → IsAnsweredIn kinds address offsets items)
       → IsAnsweredIn Both address offsets (parts_with b first items) → IsAnsweredIn kinds address offsets (Found first ∷ items)
-  of_first true first items is rest (had, inl same, any, begins, at) =
-      (first, inl refl, is, (begins_stay range first address inside).0 (subst (λ (h : Had). BeginsWith h.bits address) same begins),
-        sym (offsets_stay range first) ∙ sym (ap (λ (h : Had). h.offsets) same) ∙ at)
+  of_first true first items is rest (had, inl same, any, begins, at) = (
+    first,
+    inl refl,
+    is,
+    (begins_stay range first address inside).0 (subst (λ (h : Had). BeginsWith h.bits address) same begins),
+    sym (offsets_stay range first) ∙ sym (ap (λ (h : Had). h.offsets) same) ∙ at,
+  )
   of_first true first items is rest (had, inr found, any, begins, at) = answered_later kinds address offsets first items (rest (had, found, any, begins, at))
   of_first false first items is rest answered = answered_later kinds address offsets first items (rest answered)
 

@@ -23,11 +23,14 @@ is_wanted (One Ipv6) as_ipv4 = not as_ipv4
 abbrev pub has_range : Had → IpNetwork → Bool
 has_range had range = starts_with beq (network_bits range) had.bits
 
--- Of such a network the range is handed out, as one of IPv4 where either is; and any other network as it is.
+-- what it has of the range: that, as one of IPv4 where either is
+abbrev pub range_in : Had → IpNetwork → Had
+range_in had range = record { bits = network_bits range; as_ipv4 = is_ipv4 (ip_of range) || had.as_ipv4; offsets = had.offsets }
+
+-- Of such a network the range is handed out, and any other network as it is.
 abbrev pub clipped : Option IpNetwork → Had → Had
 clipped None had = had
-clipped (Some range) had =
-    if has_range had range then record { bits = network_bits range; as_ipv4 = is_ipv4 (ip_of range) || had.as_ipv4; offsets = had.offsets } else had
+clipped (Some range) had = if has_range had range then range_in had range else had
 
 -- What is handed out of items: of each network that is wanted what it has of a range, and each item that can't be read.
 abbrev pub parts_of : Kinds → Option IpNetwork → List Item → List Item

@@ -158,8 +158,9 @@ fn part_of<A: Answer>(kinds: Kinds, range: Option<IpNetwork>, whole: A) -> Optio
     Some(Clipped { whole, network })
 }
 
-/// A walk of which only networks of some kinds are wanted, and of one that has a range no more than the range. A network is left
-/// out by its own kind. What is handed out of it is of IPv4, where the range is.
+/// A walk of which only networks of some kinds are wanted, and of one that has a range no more than the range. Whether a network
+/// is wanted is asked of its own kind; what is handed out of it is of IPv4, where the range is. One that hasn't all of the range
+/// is handed out as it is: a walk within the range has no others than those that lie there.
 #[derive(Drop)]
 pub struct Part<W: Walk + Drop> {
     pub walk: W,
@@ -189,7 +190,7 @@ impl<W: Walk + Drop> Walk for Part<W> {
                 Err(error) => return Some(Err(error)),
             }
         }
-        // as many left out one after another are more than can be counted
+        // not reached: nobody waits for as many networks that are left out one after another
         Some(Err(MaxMindDbError::Memory))
     }
 }

@@ -1,4 +1,4 @@
-use Rattle.std.proofs.Common.{◌≡◌, sym, subst, Some}
+use Rattle.std.proofs.Common.{sym, subst}
 use Rattle.mmdb_query.specs.Had.{IsNetworkOf}
 use Rattle.mmdb_query.specs.Parts.{clipped}
 use Rattle.mmdb_query.proofs.part.clip.Goals as goal

@@ -1,4 +1,4 @@
-use Rattle.std.proofs.Common.{◌≡◌, ◌∙◌, ◌||◌, true, false, subst, ◌↔◌}
+use Rattle.std.proofs.Common.{◌≡◌, ◌∙◌, true, false, subst, ◌↔◌}
 use Rattle.std.specs.Bool.{IsTrue}
 use Rattle.std.specs.Net.Addr.{is_ipv4}
 use Rattle.mmdb_net.specs.Network.{ip_of}

@@ -1,4 +1,3 @@
-use Rattle.mmdb_query.proofs.PartLaws.{clipped_is}
 use Rattle.mmdb_query.proofs.part.part_of.Goals as goal
 
 pub invariant_of-result : goal.invariant_of-result
