@@ -2,7 +2,7 @@
 use mmdb_blocks::BlockKind;
 use mmdb_compare::AskedDatabase;
 use mmdb_layout::{Condition, Requirement, Texts};
-use mmdb_query::{Addresses, Faults, Many, QueryError, Walk, blocks, gather};
+use mmdb_query::{Addresses, Faults, Many, Place, QueryError, Walk, blocks, gather};
 use mmdb_query_forms::AllOf;
 use mmdb_reader::{IpNetwork, MaxMindDbError, PathElement, Reader, WithinOptions};
 use mmdb_vectors::builder::{Field, changed_file, nodes_24};
@@ -28,13 +28,11 @@ const BROKEN: Tree = [(1, 2), (43, 3), (33, 19)];
 struct Silent;
 
 impl Faults for Silent {
-    fn report(
-        &mut self,
-        _network: Option<IpNetwork>,
-        _error: &MaxMindDbError,
-    ) -> Result<(), QueryError> {
+    fn report(&mut self, _place: Place, _error: &MaxMindDbError) -> Result<(), AllocError> {
         Ok(())
     }
+
+    fn passed(&mut self, _networks: u64) {}
 }
 
 /// What a condition is on, what is wanted there, and one text.
