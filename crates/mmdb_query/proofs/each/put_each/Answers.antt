@@ -1,4 +1,5 @@
-use Rattle.std.proofs.Common.{err_from_is_err_and, ◌≡◌, ◌≤◌, ◌+◌, ◌∙◌, refl, subst, arith}
+use Rattle.std.proofs.lemmas.Result.{err_from_is_err_and}
+use Rattle.std.proofs.Common.{◌≡◌, ◌≤◌, ◌+◌, ◌∙◌, refl, subst, arith}
 use Rattle.mmdb_query.specs.Kept.{ChoiceFits}
 use Rattle.mmdb_query.specs.Taking.{Asked, asks}
 use Rattle.mmdb_query.specs.Steps.{UnderWay, TakesStep}
