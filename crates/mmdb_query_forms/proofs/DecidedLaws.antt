@@ -1,12 +1,11 @@
 -- What conditions say is one thing, unless they compare a double or a float.
-use Rattle.std.proofs.Common.{◌≡◌, ℕ, List, [], ◌∷◌, Option, Some, None, Bool, true, false, not, inl, inr, refl, sym, ap, ◌∙◌, subst}
+use Rattle.std.proofs.Common.{◌≡◌, ℕ, List, [], ◌∷◌, Option, Some, None, Bool, true, false, inl, inr, refl, sym, ap, ◌∙◌, subst}
 use Rattle.std.proofs.lemmas.Bool.{true≢false}
 use Rattle.std.proofs.lemmas.List.Elements.{All-head, All-tail}
 use Rattle.std.proofs.lemmas.Option.{same_Some, none-some}
 use Rattle.std.specs.List.{All}
 use Rattle.std.specs.Prelude.{decimal}
 use Rattle.std.specs.Fmt.{signed_decimal}
-use Rattle.std.specs.declared.net.ip_addr.IpAddr.{IpAddr}
 use Rattle.base64.specs.GeneralPurpose.{encode_of}
 use Rattle.base64.specs.Engines.{standard}
 use Rattle.json.specs.Json.{Json, boolean as truth, number, string}
@@ -16,14 +15,14 @@ use Rattle.mmdb_format.specs.Contents.{text, bytes, boolean, signed32, number16,
 use Rattle.mmdb_format.specs.Unfolding.{Tree, scalar, array, table, pointer}
 use Rattle.mmdb_json.specs.Shown.{Shows}
 use Rattle.mmdb_json.specs.Texts.{IsCompact}
+use Rattle.mmdb_reader.specs.File.{data_section}
 use Rattle.mmdb_reader.specs.declared.path.PathElement.{PathElement}
-use Rattle.mmdb_layout.specs.Conditions.{SaysWrittenBy, IsWrittenBy, SaysAmong, SaysPart, SaysPartOf, text_of, SaysBeyond, SaysFits, SaysRead, SaysFoundBy, SaysMetBy, SaysAllMetBy, HasUnreadBy, wants}
-use Rattle.mmdb_layout.specs.Numbers.{SaysBeyondAll, IsBeyond}
+use Rattle.mmdb_layout.specs.Conditions.{IsWrittenBy, SaysAmong, SaysPart, SaysPartOf, text_of, SaysBeyond, SaysFits, SaysRead, SaysFoundBy, SaysMetBy, SaysAllMetBy, HasUnreadBy, texts_of, wants}
+use Rattle.mmdb_layout.specs.Numbers.{IsBeyond}
 use Rattle.mmdb_layout.specs.declared.condition.Condition.{Condition}
 use Rattle.mmdb_layout.specs.declared.condition.Requirement.{Requirement}
 use Rattle.mmdb_layout.specs.declared.condition.Requirement.TheVariants.{OneOf, NoneOf, Part, Present, Above, Below}
-use Rattle.mmdb_layout.specs.declared.number.Side.{Side}
-use Rattle.mmdb_layout.specs.declared.number.Side.TheVariants as sides
+use Rattle.mmdb_query.specs.Reading.{outlines_of}
 use Rattle.mmdb_query_forms.specs.Decided.{IsNoFloat, Decides, IsDecided, SetsOfDecidedAreExact}
 
 -- ---- a value
@@ -49,7 +48,7 @@ among_apart (scalar (double_bits n)) texts is yes no = absurd is
 among_apart (scalar (float_bits n)) texts is yes no = absurd is
 among_apart (pointer a t) texts is yes no = absurd is
 
-beyond_apart : (side : Side) (v : Tree) (bounds : List (List ℕ)) → IsNoFloat v → SaysBeyond side v bounds true → SaysBeyond side v bounds false → ⊥
+beyond_apart : (side : _) (v : Tree) (bounds : List (List ℕ)) → IsNoFloat v → SaysBeyond side v bounds true → SaysBeyond side v bounds false → ⊥
 beyond_apart side (scalar (text own)) bounds is yes no = true≢false yes
 beyond_apart side (array ts) bounds is yes no = true≢false yes
 beyond_apart side (table ps) bounds is yes no = true≢false yes
@@ -73,8 +72,8 @@ fits_apart OneOf v texts is yes no = among_apart v texts is yes no
 fits_apart NoneOf v texts is yes no = among_apart v texts is yes no
 fits_apart Part v texts is yes no = part_apart (text_of v) texts yes no
 fits_apart Present v texts is yes no = true≢false (sym no)
-fits_apart Above v texts is yes no = beyond_apart sides.Above v texts is yes no
-fits_apart Below v texts is yes no = beyond_apart sides.Below v texts is yes no
+fits_apart Above v texts is yes no = beyond_apart _ v texts is yes no
+fits_apart Below v texts is yes no = beyond_apart _ v texts is yes no
 
 -- ---- a condition
 
@@ -91,7 +90,7 @@ one_read wanted read texts false false is yes no = refl
 met_apart : (condition : Condition) (reads : List PathElement → Option (Option Tree)) → IsDecided reads condition → SaysMetBy condition reads true → SaysMetBy condition reads false → ⊥
 met_apart condition reads is (yes_found, (yes_value, yes_read, yes), yes_is) (no_found, (no_value, no_read, no), no_is) =
     let same : no_value ≡ yes_value = same_Some no_value yes_value (sym no_read ∙ yes_read) in
-    let found : yes_found ≡ no_found = one_read condition.wanted yes_value _ yes_found no_found (λ v at. is v (yes_read ∙ ap Some at)) yes (subst (λ (read : Option Tree). SaysRead condition.wanted read _ no_found) same no) in
+    let found : yes_found ≡ no_found = one_read condition.wanted yes_value (texts_of condition) yes_found no_found (λ v at. is v (yes_read ∙ ap Some at)) yes (subst (λ (read : Option Tree). SaysRead condition.wanted read (texts_of condition) no_found) same no) in
     true≢false (yes_is ∙ (ap (wants condition.wanted) found ∙ sym no_is))
 
 met_read : (condition : Condition) (reads : List PathElement → Option (Option Tree)) → SaysMetBy condition reads true → reads condition.path.items ≡ None → ⊥
@@ -116,7 +115,7 @@ sets_of_decided_are_exact all db set unread only all_met address small decided =
   (λ has. only address small has),
   (λ (offset, record_of, meets). elim (all_met address offset small record_of) [
     | inl has ↦ has
-    | inr (inl unmet) ↦ absurd (all_apart all.conditions.now _ (decided offset record_of) meets unmet)
-    | inr (inr cant) ↦ absurd (all_read all.conditions.now _ meets cant.0)
+    | inr (inl unmet) ↦ absurd (all_apart all.conditions.now (outlines_of (data_section db ∷ []) (Some offset ∷ [])) (decided offset record_of) meets unmet)
+    | inr (inr cant) ↦ absurd (all_read all.conditions.now (outlines_of (data_section db ∷ []) (Some offset ∷ [])) meets cant.0)
   ]),
 )
