@@ -1,0 +1,2 @@
+mod LabelLaws
+mod ColumnLaws
