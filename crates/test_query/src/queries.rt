@@ -4,8 +4,8 @@ ghost use Rattle.std.specs.Prelude.{⊤, ℕ, List};
 use super::databases::{BROKEN, FIRST, HALF, Tree, reader_of};
 use mmdb_blocks::{Block, BlockKind};
 use mmdb_query::{
-    Addresses, Answer, Conditions, Faults, QueryError, Rows, Template, blocks, export_rows, gather_all,
-    list_all,
+    Addresses, Answer, Conditions, Faults, QueryError, Rows, Template, blocks, export_rows,
+    gather_all, list_all,
 };
 use mmdb_reader::{IpNetwork, MaxMindDbError, PathElement, WithinOptions};
 use mmdb_value::Value;
