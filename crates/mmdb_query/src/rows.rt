@@ -150,7 +150,7 @@ impl<'a, T: Template> Rows<'a, T> {
     ) -> Result<Rows<'a, T>, AllocError>
         ensures template { IfOk result (λ rows. rows.maker.template.now ≡ template.now) }
         ensures fits { IfOk result (λ rows. (s : List (List ℕ))
-            → T.fits template.now s scratch.entry → RowsFit T.is_tail T.fits s rows.maker) }
+            → T.fits template.now s scratch → RowsFit T.is_tail T.fits s rows.maker) }
     {
         let line = Vec::with_capacity(alloc, LINE)?;
         let kept = Cache::new(alloc, MOST_KEPT);

@@ -1,2 +1,3 @@
 mod LabelLaws
 mod ColumnLaws
+mod RecordLaws

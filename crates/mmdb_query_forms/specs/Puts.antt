@@ -9,6 +9,10 @@ use Rattle.mmdb_query_forms.specs.declared.columns.RowForm.{RowForm}
 abbrev pub PutsValue : RowForm → Option Tree → List ℕ → List ℕ → Type 0
 PutsValue form value old new = (shown : List ℕ) × ShowsValue form value shown × (new ≡ old ++ shown)
 
+-- what shows what was read
+abbrev pub PutsRead : RowForm → Option (Option Tree) → List ℕ → List ℕ → Type 0
+PutsRead form read old new = (value : Option Tree) × (read ≡ Some value) × PutsValue form value old new
+
 -- a column's value, with what comes before it
 abbrev pub PutsColumn : RowForm → Readings → Column → List ℕ → List ℕ → Type 0
 PutsColumn form readings column old new =

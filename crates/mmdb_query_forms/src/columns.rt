@@ -6,7 +6,7 @@ ghost use Rattle.mmdb_format.specs.Unfolding.{scalar};
 ghost use Rattle.mmdb_value.specs.Values.{value_tree};
 ghost use Rattle.mmdb_query.specs.Reading.{IsReadAs};
 ghost use Rattle.mmdb_query_forms.specs.Columns.{readings_of, read_by, label_of, front_of as spec_front_of, behind_network as spec_behind_network, end_of as spec_end_of, AnyUnread};
-ghost use Rattle.mmdb_query_forms.specs.Puts.{PutsValue, PutsColumn, PutsColumns};
+ghost use Rattle.mmdb_query_forms.specs.Puts.{PutsValue, PutsRead, PutsColumn, PutsColumns};
 ghost use Rattle.mmdb_query_forms.specs.declared.columns.RowForm.TheVariants.{Csv, Json};
 
 use crate::column::{Column, ColumnSource};
@@ -137,6 +137,33 @@ impl RowForm {
         }
     }
 
+    // Adds what a column shows of what databases have, and says whether there is a value.
+    fn put_read<A: Answer>(
+        self,
+        alloc: Global,
+        source: &ColumnSource<'_>,
+        answer: &A,
+        out: &mut Vec<u8>,
+    ) -> Result<bool, MaxMindDbError>
+        ensures shown { OnOk result (PutsRead self (read_by source.now
+            (readings_of (A.sections answer.now) (A.had answer.now).offsets))
+            out.old.items out.new.items) }
+        ensures unread { IfErr result (λ e. MemoryApart e (read_by source.now
+            (readings_of (A.sections answer.now) (A.had answer.now).offsets) ≡ None)) }
+    {
+        match read(alloc, source, answer) {
+            Ok(Some(value)) => {
+                self.put_value(alloc, &value, out)?;
+                Ok(true)
+            }
+            Ok(None) => {
+                self.put_none(out)?;
+                Ok(false)
+            }
+            Err(error) => Err(error),
+        }
+    }
+
     // Adds a column of what databases have, and says whether there is a value.
     fn put_column<A: Answer>(
         self,
@@ -152,17 +179,7 @@ impl RowForm {
             (readings_of (A.sections answer.now) (A.had answer.now).offsets) ≡ None)) }
     {
         out.extend_from_slice(self.label(column))?;
-        match read(alloc, &column.source, answer) {
-            Ok(Some(value)) => {
-                self.put_value(alloc, &value, out)?;
-                Ok(true)
-            }
-            Ok(None) => {
-                self.put_none(out)?;
-                Ok(false)
-            }
-            Err(error) => Err(error),
-        }
+        self.put_read(alloc, &column.source, answer, out)
     }
 }
 
@@ -191,9 +208,9 @@ impl ColumnScratch {
         }
     }
 
-    // Notes that the column at a place had a value.
-    fn meet(&mut self, place: usize) {
-        if let Some(met) = self.met.get_mut(place) {
+    // Notes whether the column at a place has a value in a row.
+    fn note(&mut self, place: usize, has_value: bool) {
+        if has_value && let Some(met) = self.met.get_mut(place) {
             *met = true;
         }
     }
@@ -222,12 +239,11 @@ impl Columns<'_> {
             (readings_of (A.sections answer.now) (A.had answer.now).offsets)
             self.now.columns.items)) }
     {
-        let mut place = 0;
-        for column in &self.columns {
-            if self.form.put_column(alloc, column, answer, out)? {
-                scratch.meet(place);
-            }
-            place += 1;
+        for place in 0..self.columns.len() {
+            let has_value = self
+                .form
+                .put_column(alloc, &self.columns[place], answer, out)?;
+            scratch.note(place, has_value);
         }
         Ok(())
     }

@@ -129,7 +129,10 @@ fn of_database(_error: MaxMindDbError) -> QueryError {
 
 // The rows of one database.
 fn rows_of_one(alloc: Global, row: &Row) -> Result<Vec<u8>, QueryError> {
-    let reader = reader_of(alloc, &row.trees[0]).map_err(of_database)?;
+    let Some(tree) = row.trees.first() else {
+        return Err(QueryError::OutOfOrder);
+    };
+    let reader = reader_of(alloc, tree).map_err(of_database)?;
     let mut walk = reader
         .networks(alloc, WithinOptions::default())
         .map_err(of_database)?;
