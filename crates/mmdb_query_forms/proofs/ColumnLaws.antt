@@ -2,7 +2,7 @@
 use Rattle.std.proofs.Common.{◌≡◌, inl, inr, ℕ, List, [], ◌∷◌, ◌++◌, Option, Some, None, refl, sym, ap, ◌∙◌, append_assoc, append-nil}
 use Rattle.mmdb_format.specs.Unfolding.{Tree}
 use Rattle.mmdb_query_forms.specs.Columns.{Readings, read_by, ShowsValue, label_of, AreColumns, AnyUnread}
-use Rattle.mmdb_query_forms.specs.Puts.{PutsColumn, PutsColumns}
+use Rattle.mmdb_query_forms.specs.Puts.{PutsRead, PutsColumn, PutsColumns}
 use Rattle.mmdb_query_forms.specs.declared.column.Column.{Column}
 use Rattle.mmdb_query_forms.specs.declared.columns.RowForm.{RowForm}
 
@@ -14,6 +14,11 @@ module _ (form : RowForm) (readings : Readings) where
 
   pub columns_begun : (all : List Column) (old : List ℕ) → ColumnsWay all all old old
   columns_begun all old = record { shown = λ rest are. (rest, are, refl); unread = λ u. u }
+
+  -- what shows what was read, with what comes before it
+  pub labelled : (column : Column) (old now new : List ℕ) → now ≡ old ++ label_of form column → PutsRead form (read_by column.source readings) now new → PutsColumn form readings column old new
+  labelled column old now new put (value, read, shown, shows, grown) =
+      (value, shown, read, shows, grown ∙ ap (λ t. t ++ shown) put ∙ append_assoc old (label_of form column) shown)
 
   pub column_put : (all left : List Column) (column : Column) (old now new : List ℕ) → ColumnsWay all (column ∷ left) old now → PutsColumn form readings column now new → ColumnsWay all left old new
   column_put all left column old now new way (value, shown, read, shows, put) = record {

@@ -86,4 +86,4 @@ end_of Json = 125 ∷ (10 ∷ [])
 pub record IsTail (form : RowForm) (readings : Readings) (columns : List Column) (tail : List ℕ) : Type 0 where
   pub shown : List ℕ
   pub are_columns : AreColumns form readings columns shown
-  pub whole : tail ≡ behind_network form ++ (shown ++ end_of form)
+  pub whole : tail ≡ (behind_network form ++ shown) ++ end_of form
