@@ -17,7 +17,8 @@ module _ (form : RowForm) (readings : Readings) where
 
   -- what shows what was read, with what comes before it
   pub labelled : (column : Column) (old now new : List ℕ) → now ≡ old ++ label_of form column → PutsRead form (read_by column.source readings) now new → PutsColumn form readings column old new
-  labelled column old now new put (value, read, shown, shows, grown) =
+  labelled column old now new put (value, read, puts) =
+      let (shown, shows, grown) = puts in
       (value, shown, read, shows, grown ∙ ap (λ t. t ++ shown) put ∙ append_assoc old (label_of form column) shown)
 
   pub column_put : (all left : List Column) (column : Column) (old now new : List ℕ) → ColumnsWay all (column ∷ left) old now → PutsColumn form readings column now new → ColumnsWay all left old new
