@@ -1,5 +1,5 @@
 -- What is read along a path in the record of one database.
-use Rattle.std.proofs.Common.{◌≡◌, ℕ, List, [], ◌∷◌, get_or, Option, Some, None, option_map, Bool, true, false, Result, Ok, Err, refl, sym, ap, ◌∙◌, subst}
+use Rattle.std.proofs.Common.{◌≡◌, ℕ, List, [], ◌∷◌, Option, Some, None, option_map, Bool, true, false, Result, Ok, Err, refl, sym, ap, ◌∙◌, subst}
 use Rattle.mmdb_format.specs.Unfolding.{Tree}
 use Rattle.mmdb_format.specs.declared.error.MaxMindDbError.{MaxMindDbError}
 use Rattle.mmdb_format.specs.declared.error.MaxMindDbError.TheVariants.{Memory, InvalidDatabase, Io, Decoding, ResourceLimit, InvalidNetwork, InvalidInput}
@@ -11,8 +11,7 @@ use Rattle.mmdb_value.specs.declared.any_value.Value.{Value}
 use Rattle.mmdb_reader.specs.Decoding.{FailsToDecode}
 use Rattle.mmdb_reader.specs.Selecting.{SelectsTo, answer_along, meets_other_from, meets_other_type}
 use Rattle.mmdb_reader.specs.declared.path.PathElement.{PathElement}
-use Rattle.mmdb_query.specs.Had.{offset_at}
-use Rattle.mmdb_query.specs.Reading.{unless_other, found_along, value_found, reads_in, or_next, first_of, record_of, IsReadAs, stands_for_none}
+use Rattle.mmdb_query.specs.Reading.{unless_other, found_along, reads_in, or_next, first_of, IsReadAs, stands_for_none}
 
 -- what is selected is read
 pub selects : (read : Meaning Tree) (path : List PathElement) (s : List ℕ) (offset : Option ℕ) (value : Option Tree)
@@ -65,12 +64,3 @@ last (Some (Some v)) = refl
 pub read_alone : (found : List PathElement → List ℕ → ℕ → Option (Option Tree)) (s : List ℕ) (offset : Option ℕ) (path : List PathElement) (r : Result (Option Value) MaxMindDbError)
     → IsReadAs (reads_in found s offset path) r → IsReadAs (first_of found (s ∷ []) (offset ∷ []) path) r
 read_alone found s offset path r is = subst (λ x. IsReadAs x r) (sym (last (reads_in found s offset path))) is
-
--- the whole record of one database
-pub record_alone : (s : List ℕ) (offset : Option ℕ) (place : ℕ) (r : Result (Option Value) MaxMindDbError)
-    → place ≡ 0 → IsReadAs (reads_in value_found s offset []) r → IsReadAs (record_of (s ∷ []) (offset ∷ []) place) r
-record_alone s offset place r first is = subst (λ n. IsReadAs (record_of (s ∷ []) (offset ∷ []) n) r) (sym first) is
-
--- where a database has no record
-pub record_absent : (sections : List (List ℕ)) (offsets : List (Option ℕ)) (place : ℕ) → offset_at offsets place ≡ None → IsReadAs (record_of sections offsets place) (Ok None)
-record_absent sections offsets place none = ap (λ o. reads_in value_found (get_or sections place []) o []) none

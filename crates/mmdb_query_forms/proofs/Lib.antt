@@ -1,3 +1,2 @@
 mod LabelLaws
 mod ColumnLaws
-mod RecordLaws
