@@ -139,6 +139,15 @@ impl<A: Answer> Answer for Clipped<A> {
     ) -> Result<Option<Value<'_>>, MaxMindDbError> {
         self.whole.outline_along(alloc, path)
     }
+
+    #[inline(always)]
+    fn read_record(
+        &self,
+        alloc: Global,
+        place: usize,
+    ) -> Result<Option<Value<'_>>, MaxMindDbError> {
+        self.whole.read_record(alloc, place)
+    }
 }
 
 // What is handed out of an answer. None where its network is not wanted.

@@ -253,4 +253,16 @@ impl<'a, S: AsSlice<u8> + Drop> Answer for Segment<'a, S> {
         }
         Ok(None)
     }
+
+    #[inline(always)]
+    fn read_record(
+        &self,
+        alloc: Global,
+        place: usize,
+    ) -> Result<Option<Value<'_>>, MaxMindDbError> {
+        if place >= self.records.len() {
+            return Ok(None);
+        }
+        self.records[place].read_along(alloc, &[])
+    }
 }

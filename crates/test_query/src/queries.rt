@@ -4,7 +4,7 @@ ghost use Rattle.std.specs.Prelude.{⊤, ℕ, List};
 use super::databases::{BROKEN, FAULTY, FAULTY_BEHIND, FIRST, HALF, Tree, reader_of};
 use mmdb_blocks::{Block, BlockKind};
 use mmdb_query::{
-    Addresses, Answer, Conditions, Faults, Place, QueryError, Template, blocks, export_rows,
+    Addresses, Answer, Conditions, Faults, Place, QueryError, Rows, Template, blocks, export_rows,
     gather_all, list_all,
 };
 use mmdb_reader::{IpNetwork, MaxMindDbError, PathElement, WithinOptions};
@@ -55,17 +55,26 @@ fn push_cell(value: Option<&Value<'_>>, tail: &mut Vec<u8>) -> Result<(), AllocE
 }
 
 impl Template for Cells {
+    type Scratch = ();
+
     ghost front = { λ t. t.front.now };
 
     ghost is_tail = { λ _ _ _ _. ⊤ };
 
     ghost is_unread = { λ _ _ _. ⊤ };
 
+    ghost fits = { λ _ _ _. ⊤ };
+
     fn front(&self) -> &[u8] {
         self.front.as_bytes()
     }
 
-    fn tail<A: Answer>(&self, alloc: Global, answer: &A) -> Result<Vec<u8>, MaxMindDbError> {
+    fn tail<A: Answer>(
+        &self,
+        alloc: Global,
+        _scratch: &mut (),
+        answer: &A,
+    ) -> Result<Vec<u8>, MaxMindDbError> {
         let mut tail = Vec::new(alloc);
         tail.push(b' ')?;
         let value = answer.read_along(alloc, FIELD)?;
@@ -163,10 +172,11 @@ fn rows_of(alloc: Global, row: &Row) -> Result<Came, QueryError> {
     let mut text = Vec::new(alloc);
     let conditions = Is { text: row.text };
     let template = Cells { front: row.front };
+    let mut rows = Rows::new(alloc, &template, ())?;
     let count = export_rows(
         alloc,
         &mut walk,
-        &template,
+        &mut rows,
         &conditions,
         &mut text,
         &mut faults,
