@@ -3,7 +3,7 @@ use super::databases::{FAULTY, FIRST, HALF, MIXED, Tree, WIDE, ipv6_reader_of, r
 use super::queries::{Came, Cells, Is, Reported, is_came};
 use mmdb_blocks::Kinds;
 use mmdb_compare::AskedDatabase;
-use mmdb_query::{Many, Part, QueryError, Walk, export_rows};
+use mmdb_query::{Many, Part, QueryError, Rows, Walk, export_rows};
 use mmdb_reader::{IpNetwork, MaxMindDbError, Reader, WithinOptions};
 use mmdb_vectors::failures::Failures;
 use std::alloc::Global;
@@ -128,10 +128,12 @@ fn rows_of_part<W: Walk + Drop>(alloc: Global, part: Part<W>) -> Result<Came, Qu
         text: Vec::new(alloc),
     };
     let mut text = Vec::new(alloc);
+    let template = Cells { front: "" };
+    let mut rows = Rows::new(alloc, &template, ())?;
     let count = export_rows(
         alloc,
         &mut part,
-        &Cells { front: "" },
+        &mut rows,
         &Is { text: None },
         &mut text,
         &mut faults,
