@@ -38,7 +38,7 @@ impl Faults for Reported {
         if let Place::At(network) = place {
             network.push_text(&mut self.text)?;
         }
-        self.text.push(b'!')
+        Ok(self.text.push(b'!')?)
     }
 
     fn passed(&mut self, _networks: u64) {}

@@ -100,7 +100,7 @@ impl Faults for Reported {
             }
             Place::First => self.text.push(b'-')?,
         }
-        self.text.push(b'!')
+        Ok(self.text.push(b'!')?)
     }
 
     fn passed(&mut self, _networks: u64) {}
