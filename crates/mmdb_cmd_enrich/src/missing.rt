@@ -1,6 +1,6 @@
 //! Which fields that no record of the lines had other records of databases have.
 use mmdb_console::wanted_path;
-use mmdb_layout::{Database, Found, ReadAlong, has_few_networks_in, networks_in};
+use mmdb_layout::{Database, ReadAlong, has_few_networks_in, networks_in};
 use mmdb_reader::{MaxMindDbError, PathElement};
 use std::alloc::{AllocError, Global};
 use std::collections::HashSet;
@@ -18,20 +18,30 @@ fn paths_of<'p>(alloc: Global, texts: &[&'p str]) -> Result<Vec<Vec<PathElement<
     Ok(paths)
 }
 
-// Marks the fields at paths that a record has. One that can't be read has none.
-fn mark(
+// Whether a record has a value at a path. One that can't be read has none.
+fn has_value<R: ReadAlong>(
     alloc: Global,
-    found: &Found<'_>,
+    found: &R,
+    path: &[PathElement<'_>],
+) -> Result<bool, AllocError> {
+    let value = found.outline_along(alloc, path);
+    match &value {
+        Ok(Some(_)) => Ok(true),
+        Err(MaxMindDbError::Memory) => Err(AllocError),
+        _ => Ok(false),
+    }
+}
+
+// Marks the fields at paths that a record has.
+fn mark<R: ReadAlong>(
+    alloc: Global,
+    found: &R,
     paths: &[Vec<PathElement<'_>>],
     are_met: &mut [bool],
 ) -> Result<(), AllocError> {
     for (is_met, path) in are_met.iter_mut().zip(paths) {
         if !*is_met {
-            match found.outline_along(alloc, path.as_slice()) {
-                Ok(value) => *is_met = value.is_some(),
-                Err(MaxMindDbError::Memory) => return Err(AllocError),
-                Err(_) => {}
-            }
+            *is_met = has_value(alloc, found, path.as_slice())?;
         }
     }
     Ok(())
