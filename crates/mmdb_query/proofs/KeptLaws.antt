@@ -60,5 +60,6 @@ module _ (is_tail : MayTail) (s : List (List ℕ)) where
   more_tails offsets before after key bytes tail is tails known all k d within =
       one_tail before (record { key = key; value = tail; bytes = bytes }) _ all (λ others are. subst (λ o. is_tail s o tail.items) (one_key s offsets others key is are) tails) (known k d within)
 
-pub fresh_rows : {T : Type 0} (is_tail : T → MayTail) (s : List (List ℕ)) (maker : RowMaker T) → maker.kept ≡ [] → RowsFit is_tail s maker
-fresh_rows is_tail s maker none = none_kept (is_tail maker.template.now) s maker.kept none
+pub fresh_rows : {T K : Type 0} (is_tail : T → MayTail) (fits : T → List (List ℕ) → K → Type 0) (s : List (List ℕ)) (maker : RowMaker T K)
+    → maker.kept ≡ [] → fits maker.template.now s maker.scratch → RowsFit is_tail fits s maker
+fresh_rows is_tail fits s maker none scratch = record { tails = none_kept (is_tail maker.template.now) s maker.kept none; scratch = scratch }

@@ -10,3 +10,4 @@ mod AnsweredLaws
 mod ListLaws
 mod SegmentLaws
 mod AbreastLaws
+mod PartLaws

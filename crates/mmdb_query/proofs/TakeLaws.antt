@@ -1,5 +1,6 @@
 -- What was taken and written of the items that came.
-use Rattle.std.proofs.Common.{◌≡◌, ◌⊎◌, inl, inr, ℕ, ◌+◌, List, [], ◌∷◌, ◌++◌, Option, Some, None, Bool, true, false, Result, Ok, Err, IfOk, refl, sym, ap, ◌∙◌, subst, append_assoc, append-nil, arith}
+use Rattle.std.proofs.Common.{◌≡◌, ◌⊎◌, inl, inr, ℕ, ◌+◌, List, [], ◌∷◌, ◌++◌, length, Option, Some, None, Bool, true, false, Result, Ok, Err, IfOk, refl, sym, ap, ◌∙◌, subst, append_assoc, append-nil, arith}
+use Rattle.std.proofs.lemmas.List.{length-append}
 use Rattle.std.specs.Io.KnownBytes.{Appends, Keeps}
 use Rattle.std.proofs.KnownBytes.{Appends-nil, Appends-trans}
 use Rattle.mmdb_format.specs.Error.{MemoryApart}
@@ -10,6 +11,9 @@ use Rattle.mmdb_query.specs.Walks.{Item, Goes, IsStep}
 use Rattle.mmdb_query.specs.Walks.Item.{Found, Unread}
 use Rattle.mmdb_query.specs.Taking.{Asked, CantBePut, IsPicked, ArePicked, Runs, Takes, IsDone}
 use Rattle.mmdb_query.specs.Steps.{is_memory, TakesChosen, TakesItem, TakesStep, FitsOf, UnderWay}
+use Rattle.mmdb_query.specs.Ends.{WritesNone, Begins, TooManyCome, EndsBy}
+use Rattle.mmdb_query.specs.declared.error.QueryError.{QueryError}
+use Rattle.mmdb_query.specs.declared.error.QueryError.TheVariants as ends
 use Rattle.mmdb_query.proofs.WalkLaws.{goes_none, goes_on}
 
 -- ---- known output
@@ -58,32 +62,33 @@ picked_one a item put fault one = (put, [], fault, 0, one, (refl, refl), sym (ap
 -- ---- the loop
 
 module _ {W X : Type 0} (comes : W → List Item → Type 0) (a : Asked X) where
-  pub started : (first : W) (old : X) (before : Option (List ℕ)) → UnderWay comes a first first old old before before 0
-  started first old before = record { done = []; put = []; text = []; came = goes_none comes first; picked = (refl, refl); ran = (refl, refl); written = Appends-nil before }
+  pub started : (first : W) (old : X) (before : Option (List ℕ)) → UnderWay comes a first first old old before before 0 0
+  started first old before = record { done = []; put = []; text = []; counted = refl; came = goes_none comes first; picked = (refl, refl); ran = (refl, refl); written = Appends-nil before }
 
-  item_taken : (first now next : W) (old one new : X) (before at after : Option (List ℕ)) (faults added : ℕ) (item : Item)
-      → UnderWay comes a first now old one before at faults → Goes comes now (item ∷ []) next → TakesItem a item added one new at after
-      → UnderWay comes a first next old new before after (faults + added)
-  item_taken first now next old one new before at after faults added item way goes takes = record {
+  item_taken : (first now next : W) (old one new : X) (before at after : Option (List ℕ)) (faults added count : ℕ) (item : Item)
+      → UnderWay comes a first now old one before at faults count → Goes comes now (item ∷ []) next → TakesItem a item added one new at after
+      → UnderWay comes a first next old new before after (faults + added) (count + 1)
+  item_taken first now next old one new before at after faults added count item way goes takes = record {
     done = way.done ++ item ∷ [];
     put = way.put ++ takes.put;
     text = way.text ++ takes.text;
+    counted = let both = length-append way.done (item ∷ []) in let so_far = way.counted in omega (arith, both, so_far);
     came = goes_on comes first now next way.done (item ∷ []) way.came goes;
     picked = picked_both a way.done (item ∷ []) way.put takes.put faults added way.picked (picked_one a item takes.put added takes.picked);
     ran = runs_both a.puts way.put takes.put old one new way.text takes.text way.ran takes.ran;
     written = Appends-trans before at after way.text takes.text way.written takes.written;
   }
 
-  unread_taken : (first now next : W) (old one new : X) (before at after : Option (List ℕ)) (faults added : ℕ)
-      → UnderWay comes a first now old one before at faults → Goes comes now (Unread ∷ []) next → added ≡ 1 → new ≡ one → Appends at after []
-      → UnderWay comes a first next old new before after (faults + added)
-  unread_taken first now next old one new before at after faults added way goes is same written =
-      item_taken first now next old one new before at after faults added Unread way goes
+  unread_taken : (first now next : W) (old one new : X) (before at after : Option (List ℕ)) (faults added count : ℕ)
+      → UnderWay comes a first now old one before at faults count → Goes comes now (Unread ∷ []) next → added ≡ 1 → new ≡ one → Appends at after []
+      → UnderWay comes a first next old new before after (faults + added) (count + 1)
+  unread_taken first now next old one new before at after faults added count way goes is same written =
+      item_taken first now next old one new before at after faults added count Unread way goes
       (record { put = []; text = []; picked = (refl, is); ran = (same, refl); written = written })
 
-  pub ended : (first now : W) (old new : X) (before after : Option (List ℕ)) (faults : ℕ) → UnderWay comes a first now old new before after faults → comes now []
+  pub ended : (first now : W) (old new : X) (before after : Option (List ℕ)) (faults count : ℕ) → UnderWay comes a first now old new before after faults count → comes now []
       → Takes (comes first) a old new before after faults
-  ended first now old new before after faults way over = record {
+  ended first now old new before after faults count way over = record {
     items = way.done;
     put = way.put;
     text = way.text;
@@ -93,20 +98,50 @@ module _ {W X : Type 0} (comes : W → List Item → Type 0) (a : Asked X) where
     written = way.written;
   }
 
+  -- where nothing more is written, that is what is written of some first items
+  begun : (first now : W) (old one : X) (before at after : Option (List ℕ)) (faults count : ℕ) → UnderWay comes a first now old one before at faults count → Appends at after []
+      → Begins comes a first old before after
+  begun first now old one before at after faults count way none = record {
+    later = now;
+    items = way.done;
+    put = way.put;
+    text = way.text;
+    new = one;
+    faults = faults;
+    first = way.came;
+    picked = way.picked;
+    ran = way.ran;
+    written = subst (Appends before after) (append-nil way.text) (Appends-trans before at after way.text [] way.written none);
+  }
+
+  pub none_begun : (first : W) (old : X) (before : Option (List ℕ)) → Begins comes a first old before before
+  none_begun first old before = begun first first old old before before before 0 0 (started first old before) (Appends-nil before)
+
+  pub ended_early : (first now : W) (old one : X) (before at after : Option (List ℕ)) (faults count : ℕ) (e : QueryError) → UnderWay comes a first now old one before at faults count
+      → WritesNone at after e → EndsBy comes a first old before after e
+  ended_early first now old one before at after faults count ends.Memory way none = begun first now old one before at after faults count way none
+  ended_early first now old one before at after faults count (ends.Write x) way none = tt
+  ended_early first now old one before at after faults count ends.TooMany way none = absurd none
+  ended_early first now old one before at after faults count ends.OutOfOrder way none = absurd none
+
+  pub too_many : (first now : W) (old one : X) (before at : Option (List ℕ)) (faults count : ℕ) → UnderWay comes a first now old one before at faults count
+      → count ≡ 18446744073709551615 → TooManyCome comes first
+  too_many first now old one before at faults count way all = (way.done, now, way.came, way.counted ∙ all)
+
 -- one step of a walk, of which the answers are of these data sections
 pub step_taken : {W A X : Type 0} (comes : W → List Item → Type 0) (of : List (List ℕ) → Asked X) (s : List (List ℕ)) (sections : A → List (List ℕ)) (had : A → Had) (item : Result A MaxMindDbError)
-    (first now next : W) (old one new : X) (before at after : Option (List ℕ)) (faults added : ℕ)
-    → UnderWay comes (of s) first now old one before at faults → IsStep comes had now (Some item) next → IfOk item (λ answer. sections answer ≡ s)
-    → TakesStep of sections had item added one new at after → UnderWay comes (of s) first next old new before after (faults + added)
-step_taken comes of s sections had (Ok answer) first now next old one new before at after faults added way step same takes =
-    item_taken comes (of s) first now next old one new before at after faults added (Found (had answer)) way step (subst (λ t. TakesItem (of t) (Found (had answer)) added one new at after) same takes)
-step_taken comes of s sections had (Err e) first now next old one new before at after faults added way step same (is, once, kept, written) =
-    unread_taken comes (of s) first now next old one new before at after faults added way (unless_memory e is step) once kept written
+    (first now next : W) (old one new : X) (before at after : Option (List ℕ)) (faults added count : ℕ)
+    → UnderWay comes (of s) first now old one before at faults count → IsStep comes had now (Some item) next → IfOk item (λ answer. sections answer ≡ s)
+    → TakesStep of sections had item added one new at after → UnderWay comes (of s) first next old new before after (faults + added) (count + 1)
+step_taken comes of s sections had (Ok answer) first now next old one new before at after faults added count way step same takes =
+    item_taken comes (of s) first now next old one new before at after faults added count (Found (had answer)) way step (subst (λ t. TakesItem (of t) (Found (had answer)) added one new at after) same takes)
+step_taken comes of s sections had (Err e) first now next old one new before at after faults added count way step same (is, once, kept, written) =
+    unread_taken comes (of s) first now next old one new before at after faults added count way (unless_memory e is step) once kept written
 
 pub fits_on : {A K : Type 0} (sections : A → List (List ℕ)) (fits : List (List ℕ) → K → Type 0) (s : List (List ℕ)) (item : Result A MaxMindDbError) (old new : K)
     → IfOk item (λ answer. sections answer ≡ s) → fits s old → FitsOf sections fits item old new → fits s new
 fits_on sections fits s (Ok answer) old new same before now = subst (λ t. fits t new) same now
-fits_on sections fits s (Err e) old new same before kept = subst (fits s) (sym kept) before
+fits_on sections fits s (Err e) old new same before still = still s before
 
 pub fits_for : {A K : Type 0} (sections : A → List (List ℕ)) (fits : List (List ℕ) → K → Type 0) (s : List (List ℕ)) (item : Result A MaxMindDbError) (old : K)
     → IfOk item (λ answer. sections answer ≡ s) → fits s old → IfOk item (λ answer. fits (sections answer) old)
@@ -116,6 +151,24 @@ fits_for sections fits s (Err e) old same before = tt
 pub all_same : {A : Type 0} (sections : A → List (List ℕ)) (t s : List (List ℕ)) (item : Result A MaxMindDbError) → IfOk item (λ answer. sections answer ≡ t) → t ≡ s → IfOk item (λ answer. sections answer ≡ s)
 all_same sections t s (Ok answer) of same = of ∙ same
 all_same sections t s (Err e) of same = tt
+
+-- ---- memory that is out
+
+-- nothing was taken nor written before a network was taken, or couldn't be
+pub put_again : {E X : Type 0} (puts : X → List ℕ → X → Type 0) (unput : Type 0) (r : Result (Option MaxMindDbError) E) (e : MaxMindDbError) (old one two new : X) (before at after : Option (List ℕ))
+    → IsDone puts unput (Some e) old one before at → two ≡ one → IfOk r (λ u. IsDone puts unput u two new at after) → IfOk r (λ u. IsDone puts unput u old new before after)
+put_again puts unput (Ok None) e old one two new before at after (cant, kept, none) same (text, put, written) =
+    (text, subst (λ x. puts x text new) (same ∙ kept) put, Appends-trans before at after [] text none written)
+put_again puts unput (Ok (Some other)) e old one two new before at after (cant, kept, none) same (cant2, kept2, none2) =
+    (cant2, kept2 ∙ same ∙ kept, nothing_more before at after none none2)
+put_again puts unput (Err x) e old one two new before at after first same second = tt
+
+-- nothing was written before
+pub none_before : (e : QueryError) (before at after : Option (List ℕ)) → Appends before at [] → WritesNone at after e → WritesNone before after e
+none_before ends.Memory before at after none more = nothing_more before at after none more
+none_before (ends.Write x) before at after none more = tt
+none_before ends.TooMany before at after none more = more
+none_before ends.OutOfOrder before at after none more = more
 
 -- ---- one network
 

@@ -25,9 +25,10 @@ IsTailKept is_tail s (Some entry) = (offsets : List (Option ℕ)) → IsKey s of
 abbrev pub AreTailsKept : MayTail → List (List ℕ) → List (Option (CacheEntry (Vec ℕ))) → Type 0
 AreTailsKept is_tail s kept = All (IsTailKept is_tail s) kept
 
--- all that rows keep is of records of these data sections
-abbrev pub RowsFit : {T : Type 0} → (T → MayTail) → List (List ℕ) → RowMaker T → Type 0
-RowsFit is_tail s maker = AreTailsKept (is_tail maker.template.now) s maker.kept
+-- all that rows keep is of records of these data sections, and so is what a template keeps to make them
+pub record RowsFit {T K : Type 0} (is_tail : T → MayTail) (fits : T → List (List ℕ) → K → Type 0) (s : List (List ℕ)) (maker : RowMaker T K) : Type 0 where
+  pub tails : AreTailsKept (is_tail maker.template.now) s maker.kept
+  pub scratch : fits maker.template.now s maker.scratch
 
 -- the number of no records
 abbrev pub no_number : ℕ

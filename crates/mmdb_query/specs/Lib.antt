@@ -10,6 +10,8 @@ pub mod Sets
 pub mod Answered
 pub mod Lists
 pub mod Abreast
+pub mod Ends
+pub mod Parts
 -- What only contracts of private functions and proofs name.
 pub mod Kept
 pub mod Steps

@@ -1,5 +1,5 @@
 -- What is read along a path in the records of databases.
-use Rattle.std.specs.Prelude.{◌≡◌, ℕ, List, [], ◌∷◌, Option, Some, None, option_map, Bool, true, false, Result, Ok, Err}
+use Rattle.std.specs.Prelude.{◌≡◌, ℕ, List, [], ◌∷◌, get_or, Option, Some, None, option_map, Bool, true, false, Result, Ok, Err}
 use Rattle.mmdb_format.specs.Unfolding.{Tree}
 use Rattle.mmdb_format.specs.declared.error.MaxMindDbError.{MaxMindDbError}
 use Rattle.mmdb_format.specs.declared.error.MaxMindDbError.TheVariants.{Memory, InvalidDatabase, Io, Decoding, ResourceLimit, InvalidNetwork, InvalidInput}
@@ -11,6 +11,7 @@ use Rattle.mmdb_value.specs.Values.{value_tree}
 use Rattle.mmdb_value.specs.declared.any_value.Value.{Value}
 use Rattle.mmdb_reader.specs.Selecting.{answer_along, meets_other_type}
 use Rattle.mmdb_reader.specs.declared.path.PathElement.{PathElement}
+use Rattle.mmdb_query.specs.Had.{offset_at}
 use Rattle.mmdb_query.specs.Outlines.{outline_at}
 
 -- what was read, or nothing in place of no answer where a value of another type is met
@@ -55,6 +56,10 @@ values_of = first_of value_found
 
 abbrev pub outlines_of : List (List ℕ) → List (Option ℕ) → List PathElement → Option (Option Tree)
 outlines_of = first_of outline_found
+
+-- The record of the database at a place, which is the value at the end of the empty path: nothing where it has none.
+abbrev pub record_of : List (List ℕ) → List (Option ℕ) → ℕ → Option (Option Tree)
+record_of sections offsets place = reads_in value_found (get_or sections place []) (offset_at offsets place) []
 
 -- What a reading gave is this answer. Out of memory is any answer.
 abbrev pub IsReadAs : Option (Option Tree) → Result (Option Value) MaxMindDbError → Type 0

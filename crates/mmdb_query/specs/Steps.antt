@@ -1,5 +1,5 @@
 -- Steps of the loop that gives networks to a sink.
-use Rattle.std.specs.Prelude.{◌≡◌, ◌⊎◌, ℕ, List, [], Option, Bool, true, false, Result, Ok, Err}
+use Rattle.std.specs.Prelude.{◌≡◌, ◌⊎◌, ℕ, List, [], length, Option, Bool, true, false, Result, Ok, Err}
 use Rattle.std.specs.Io.KnownBytes.{Appends}
 use Rattle.mmdb_format.specs.declared.error.MaxMindDbError.{MaxMindDbError}
 use Rattle.mmdb_format.specs.declared.error.MaxMindDbError.TheVariants.{Memory, InvalidDatabase, Io, Decoding, ResourceLimit, InvalidNetwork, InvalidInput}
@@ -38,16 +38,21 @@ abbrev pub TakesStep : {A X : Type 0} → (List (List ℕ) → Asked X) → (A �
 TakesStep of sections had (Ok answer) fault old new before after = TakesItem (of (sections answer)) (Found (had answer)) fault old new before after
 TakesStep of sections had (Err e) fault old new before after = (is_memory e ≡ false) × (fault ≡ 1) × (new ≡ old) × Appends before after []
 
--- what is kept fits the data sections of an answer; and else nothing changed
+-- what is kept fits all data sections that it fitted
+abbrev pub FitsStill : {K : Type 0} → (List (List ℕ) → K → Type 0) → K → K → Type 0
+FitsStill fits old new = (s : List (List ℕ)) → fits s old → fits s new
+
+-- what is kept fits the data sections of an answer; and else those that it fitted
 abbrev pub FitsOf : {A K : Type 0} → (A → List (List ℕ)) → (List (List ℕ) → K → Type 0) → Result A MaxMindDbError → K → K → Type 0
 FitsOf sections fits (Ok answer) old new = fits (sections answer) new
-FitsOf sections fits (Err e) old new = new ≡ old
+FitsOf sections fits (Err e) old new = FitsStill fits old new
 
--- What was taken and written is what is put of the items that came.
-pub record UnderWay {W X : Type 0} (comes : W → List Item → Type 0) (a : Asked X) (first now : W) (old new : X) (before after : Option (List ℕ)) (faults : ℕ) : Type 0 where
+-- What was taken and written is what is put of the items that came, which are so many.
+pub record UnderWay {W X : Type 0} (comes : W → List Item → Type 0) (a : Asked X) (first now : W) (old new : X) (before after : Option (List ℕ)) (faults count : ℕ) : Type 0 where
   pub done : List Item
   pub put : List Had
   pub text : List ℕ
+  pub counted : length done ≡ count
   pub came : Goes comes first done now
   pub picked : ArePicked a done put faults
   pub ran : Runs a.puts put old text new

@@ -99,8 +99,14 @@ impl Sink for Addresses {
         answer: &A,
         _out: &mut O,
     ) -> Result<Option<MaxMindDbError>, QueryError> {
-        self.add(answer.network())?;
-        Ok(None)
+        match self.add(answer.network()) {
+            Ok(()) => Ok(None),
+            Err(_) => Err(QueryError::Memory),
+        }
+    }
+
+    fn drop_caches(&mut self) -> bool {
+        false
     }
 }
 

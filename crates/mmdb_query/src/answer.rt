@@ -2,7 +2,7 @@
 ghost use Rattle.std.specs.Prelude.{◌≡◌, ℕ, List, IfSome};
 ghost use Rattle.mmdb_query.specs.Had.{Had, IsNetworkOf, offset_at, has_one};
 ghost use Rattle.mmdb_query.specs.Keys.{IsKey};
-ghost use Rattle.mmdb_query.specs.Reading.{values_of, outlines_of, IsReadAs};
+ghost use Rattle.mmdb_query.specs.Reading.{values_of, outlines_of, record_of, IsReadAs};
 
 use crate::numbered::network_of;
 use crate::values::{outline_along, value_along};
@@ -52,6 +52,10 @@ pub trait Answer: Drop {
     ) -> Result<Option<Value<'_>>, MaxMindDbError>
         ensures { IsReadAs (outlines_of (sections self.now) (had self.now).offsets path.now)
             result };
+
+    /// The whole record of the database at a place, if it has one. Fails, unless out of memory, where it can't be read.
+    fn read_record(&self, alloc: Global, place: usize) -> Result<Option<Value<'_>>, MaxMindDbError>
+        ensures { IsReadAs (record_of (sections self.now) (had self.now).offsets place) result };
 }
 
 /// One database.
@@ -105,5 +109,18 @@ impl<'a, S: AsSlice<u8> + Drop> Answer for LookupResult<'a, S> {
         path: &[PathElement<'_>],
     ) -> Result<Option<Value<'_>>, MaxMindDbError> {
         outline_along(alloc, self, path)
+    }
+
+    #[inline(always)]
+    fn read_record(
+        &self,
+        alloc: Global,
+        place: usize,
+    ) -> Result<Option<Value<'_>>, MaxMindDbError> {
+        if place == 0 {
+            value_along(alloc, self, &[])
+        } else {
+            Ok(None)
+        }
     }
 }

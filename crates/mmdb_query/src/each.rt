@@ -1,18 +1,113 @@
 //! The chosen networks of a walk, given to a sink one by one.
-ghost use Rattle.std.specs.Prelude.{◌≡◌, ◌≤◌, IfOk};
+ghost use Rattle.std.specs.Prelude.{◌≡◌, ◌≤◌, ◌+◌, ℕ, List, [], false, IfOk, IfErr, length};
+ghost use Rattle.std.specs.Io.KnownBytes.{Appends};
+ghost use Rattle.mmdb_format.specs.Error.{MemoryApart};
+ghost use Rattle.mmdb_query.specs.Ends.{IsOfOutput, WritesNone, EndsBy};
 ghost use Rattle.mmdb_query.specs.Kept.{ChoiceFits};
 ghost use Rattle.mmdb_query.specs.Walks.Item.{Found};
-ghost use Rattle.mmdb_query.specs.Taking.{asks, Takes};
-ghost use Rattle.mmdb_query.specs.Steps.{TakesItem, TakesStep, TakesChosen, FitsOf};
+ghost use Rattle.mmdb_query.specs.Taking.{asks, Takes, IsDone};
+ghost use Rattle.mmdb_query.specs.Steps.{TakesItem, TakesStep, TakesChosen, FitsOf, FitsStill, is_memory as spec_is_memory};
 
 use crate::answer::Answer;
 use crate::choice::{Choice, Conditions};
-use crate::error::{Faults, QueryError, report};
+use crate::error::{Faults, Place, QueryError, is_memory, report};
 use crate::sink::Sink;
 use crate::walk::Walk;
 use mmdb_reader::MaxMindDbError;
 use std::alloc::Global;
 use std::io::Write;
+
+/// After so many networks it is said how many passed.
+const STEP: u64 = 1 << 16;
+
+// Says now and then how many networks passed.
+#[inline(always)]
+fn tell<F: Faults>(passed: u64, faults: &mut F) {
+    if passed % STEP == 0 {
+        faults.passed(passed);
+    }
+}
+
+// Where a network is that comes behind the last one.
+fn place_behind<A: Answer>(last: &Option<A>) -> Place {
+    match last {
+        Some(answer) => Place::Behind(answer.network()),
+        None => Place::First,
+    }
+}
+
+// Whether a network is chosen. Where memory is out, what a sink keeps is dropped, and it is asked once more.
+#[inline(always)]
+fn chooses<A: Answer, S: Sink, C: Conditions>(
+    choice: &mut Choice<'_, C>,
+    sink: &mut S,
+    answer: &A,
+) -> Result<bool, MaxMindDbError>
+    requires { ChoiceFits C.says (A.sections answer.now) choice.old }
+    ensures says { IfOk result
+        (C.says choice.old.conditions.now (A.sections answer.now) (A.had answer.now).offsets) }
+    ensures unread { IfErr result (λ e. MemoryApart e
+        (C.is_unread choice.old.conditions.now (A.sections answer.now)
+        (A.had answer.now).offsets)) }
+    ensures choice { ChoiceFits C.says (A.sections answer.now) choice.new }
+    ensures same { choice.new.conditions.now ≡ choice.old.conditions.now }
+    ensures sink { FitsStill S.fits sink.old sink.new }
+    ensures form { S.form sink.new ≡ S.form sink.old }
+    ensures took { S.took sink.new ≡ S.took sink.old }
+{
+    match choice.chooses(answer) {
+        Err(error) if is_memory(&error) && sink.drop_caches() => choice.chooses(answer),
+        done => done,
+    }
+}
+
+// Gives a chosen network to a sink. Where memory is out, what it keeps is dropped, and it is given once more: nothing was taken.
+#[inline(always)]
+fn put<A: Answer, S: Sink, O: Write>(
+    sink: &mut S,
+    answer: &A,
+    out: &mut O,
+) -> Result<Option<MaxMindDbError>, QueryError>
+    requires { S.fits (A.sections answer.now) sink.old }
+    ensures done { IfOk result (λ unread. IsDone
+        (S.puts (S.form sink.old) (A.sections answer.now) (A.had answer.now))
+        (S.is_unread (S.form sink.old) (A.sections answer.now) (A.had answer.now).offsets)
+        unread (S.took sink.old) (S.took sink.new) (O.contents out.old) (O.contents out.new)) }
+    ensures failed { IfErr result (WritesNone (O.contents out.old) (O.contents out.new)) }
+    ensures fits { S.fits (A.sections answer.now) sink.new }
+    ensures form { S.form sink.new ≡ S.form sink.old }
+{
+    match sink.put(answer, out)? {
+        Some(error) if is_memory(&error) && sink.drop_caches() => sink.put(answer, out),
+        done => Ok(done),
+    }
+}
+
+// Reports a network that can't be read, and says that it is one. Where there is no memory for that, what a sink keeps is
+// dropped, and it is tried once more: nothing was reported.
+#[cold]
+#[inline(never)]
+fn report_of<S: Sink, O: Write, F: Faults>(
+    sink: &mut S,
+    place: Place,
+    error: &MaxMindDbError,
+    out: &mut O,
+    faults: &mut F,
+) -> Result<u64, QueryError>
+    ensures one { IfOk result (λ fault. (fault ≡ 1) × (spec_is_memory error.now ≡ false)) }
+    ensures out { Appends (O.contents out.old) (O.contents out.new) [] }
+    ensures failed { IfErr result IsOfOutput }
+    ensures sink { FitsStill S.fits sink.old sink.new }
+    ensures form { S.form sink.new ≡ S.form sink.old }
+    ensures took { S.took sink.new ≡ S.took sink.old }
+{
+    match report(place, error, out, faults) {
+        Err(QueryError::Memory) if !is_memory(error) && sink.drop_caches() => {
+            report(place, error, out, faults)
+        }
+        done => done,
+    }
+}
 
 // Gives a chosen network to a sink, or reports why it can't be, and says how many can't.
 #[inline(always)]
@@ -27,13 +122,14 @@ fn put_chosen<A: Answer, S: Sink, O: Write, F: Faults>(
         (S.puts (S.form sink.old) (A.sections answer.now) (A.had answer.now))
         (S.is_unread (S.form sink.old) (A.sections answer.now) (A.had answer.now).offsets)
         fault (S.took sink.old) (S.took sink.new) (O.contents out.old) (O.contents out.new)) }
+    ensures failed { IfErr result (WritesNone (O.contents out.old) (O.contents out.new)) }
     ensures few { IfOk result (λ fault. fault ≤ 1) }
     ensures fits { S.fits (A.sections answer.now) sink.new }
     ensures form { S.form sink.new ≡ S.form sink.old }
 {
-    match sink.put(answer, out)? {
+    match put(sink, answer, out)? {
         None => Ok(0),
-        Some(error) => report(Some(answer.network()), &error, out, faults),
+        Some(error) => report_of(sink, Place::At(answer.network()), &error, out, faults),
     }
 }
 
@@ -53,25 +149,27 @@ fn put_answer<A: Answer, S: Sink, C: Conditions, O: Write, F: Faults>(
         (A.sections answer.now)) (Found (A.had answer.now)) fault
         (S.took sink.old) (S.took sink.new)
         (O.contents out.old) (O.contents out.new)) }
+    ensures failed { IfErr result (WritesNone (O.contents out.old) (O.contents out.new)) }
     ensures few { IfOk result (λ fault. fault ≤ 1) }
     ensures choice { ChoiceFits C.says (A.sections answer.now) choice.new }
     ensures sink { S.fits (A.sections answer.now) sink.new }
     ensures same { choice.new.conditions.now ≡ choice.old.conditions.now }
     ensures form { S.form sink.new ≡ S.form sink.old }
 {
-    match choice.chooses(answer) {
+    match chooses(choice, sink, answer) {
         Ok(true) => put_chosen(sink, answer, out, faults),
         Ok(false) => Ok(0),
-        Err(error) => report(Some(answer.network()), &error, out, faults),
+        Err(error) => report_of(sink, Place::At(answer.network()), &error, out, faults),
     }
 }
 
-// The same of what a walk hands out.
+// The same of what a walk hands out behind its last network.
 #[inline(always)]
 fn put_item<A: Answer, S: Sink, C: Conditions, O: Write, F: Faults>(
     choice: &mut Choice<'_, C>,
     sink: &mut S,
     item: Result<A, MaxMindDbError>,
+    last: &mut Option<A>,
     out: &mut O,
     faults: &mut F,
 ) -> Result<u64, QueryError>
@@ -81,6 +179,7 @@ fn put_item<A: Answer, S: Sink, C: Conditions, O: Write, F: Faults>(
         (asks C.says C.is_unread S.puts S.is_unread choice.old.conditions.now (S.form sink.old))
         A.sections A.had item fault (S.took sink.old) (S.took sink.new)
         (O.contents out.old) (O.contents out.new)) }
+    ensures failed { IfErr result (WritesNone (O.contents out.old) (O.contents out.new)) }
     ensures few { IfOk result (λ fault. fault ≤ 1) }
     ensures choice { FitsOf A.sections (ChoiceFits C.says) item choice.old choice.new }
     ensures sink { FitsOf A.sections S.fits item sink.old sink.new }
@@ -88,13 +187,19 @@ fn put_item<A: Answer, S: Sink, C: Conditions, O: Write, F: Faults>(
     ensures form { S.form sink.new ≡ S.form sink.old }
 {
     match item {
-        Ok(answer) => put_answer(choice, sink, &answer, out, faults),
-        Err(error) => report(None, &error, out, faults),
+        Ok(answer) => {
+            let fault = put_answer(choice, sink, &answer, out, faults)?;
+            *last = Some(answer);
+            Ok(fault)
+        }
+        Err(error) => report_of(sink, place_behind(last), &error, out, faults),
     }
 }
 
 /// Gives the networks of a walk that meet all conditions to a sink, one by one, reports each that can't be read, and says how
-/// many can't. An `Err` is of the sink, of memory, or of a report.
+/// many can't. Where memory is out, what the sink keeps is dropped, and it is tried once more.
+///
+/// An `Err` is of the output; of memory, and then what was written is of some first networks; or more come than can be counted.
 pub fn put_each<W: Walk, S: Sink, C: Conditions, O: Write, F: Faults>(
     alloc: Global,
     walk: &mut W,
@@ -108,15 +213,25 @@ pub fn put_each<W: Walk, S: Sink, C: Conditions, O: Write, F: Faults>(
         (asks C.says C.is_unread S.puts S.is_unread conditions.now (S.form sink.old)
         (W.sections walk.old)) (S.took sink.old) (S.took sink.new)
         (O.contents out.old) (O.contents out.new) unread) }
+    ensures failed { IfErr result (EndsBy W.comes
+        (asks C.says C.is_unread S.puts S.is_unread conditions.now (S.form sink.old)
+        (W.sections walk.old)) walk.old (S.took sink.old)
+        (O.contents out.old) (O.contents out.new)) }
     ensures form { S.form sink.new ≡ S.form sink.old }
 {
-    let mut choice = Choice::new(alloc, conditions)?;
+    let Ok(mut choice) = Choice::new(alloc, conditions) else {
+        return Err(QueryError::Memory);
+    };
+    let mut last = None;
     let mut unread = 0;
+    let mut passed = 0u64;
     for _ in 0..u64::MAX {
         let Some(item) = walk.next_item() else {
             return Ok(unread);
         };
-        unread += put_item(&mut choice, sink, item, out, faults)?;
+        unread += put_item(&mut choice, sink, item, &mut last, out, faults)?;
+        passed = passed.wrapping_add(1);
+        tell(passed, faults);
     }
     Err(QueryError::TooMany)
 }

@@ -1,6 +1,7 @@
 //! Why a walk is not done to its end, and who is told of networks that can't be read.
-ghost use Rattle.std.specs.Prelude.{◌≡◌, IfOk, [], false};
+ghost use Rattle.std.specs.Prelude.{◌≡◌, IfOk, IfErr, [], false};
 ghost use Rattle.std.specs.Io.KnownBytes.{Appends};
+ghost use Rattle.mmdb_query.specs.Ends.{IsOfOutput};
 ghost use Rattle.mmdb_query.specs.Steps.{is_memory as spec_is_memory};
 
 use mmdb_blocks::RangesError;
@@ -19,17 +20,6 @@ pub enum QueryError {
     TooMany,
     /// Blocks of addresses would not ascend.
     OutOfOrder,
-}
-
-impl QueryError {
-    /// Of a write that failed.
-    pub fn of_write(error: io::Error) -> QueryError {
-        if error.kind() == io::ErrorKind::OutOfMemory {
-            QueryError::Memory
-        } else {
-            QueryError::Write(error)
-        }
-    }
 }
 
 impl From<AllocError> for QueryError {
@@ -53,18 +43,29 @@ impl From<RangesError> for QueryError {
     }
 }
 
-/// Who is told of networks that can't be read.
-pub trait Faults {
-    /// A network can't be read, of which it may not be known which it is. What was written before is flushed.
-    fn report(
-        &mut self,
-        network: Option<IpNetwork>,
-        error: &MaxMindDbError,
-    ) -> Result<(), QueryError>;
+/// Where a network is that can't be read.
+#[derive(Clone, Copy)]
+pub enum Place {
+    /// The network itself.
+    At(IpNetwork),
+    /// The first one that comes behind this network.
+    Behind(IpNetwork),
+    /// The first one of all.
+    First,
 }
 
-// Whether memory is out.
-fn is_memory(error: &MaxMindDbError) -> bool
+/// Who is told of networks.
+pub trait Faults {
+    /// A network can't be read. What was written before is flushed. An `Err` is of memory, and then nothing is reported.
+    fn report(&mut self, place: Place, error: &MaxMindDbError) -> Result<(), AllocError>;
+
+    /// So many networks passed, which is said now and then.
+    fn passed(&mut self, networks: u64);
+}
+
+/// Whether memory is out.
+#[inline(always)]
+pub(crate) fn is_memory(error: &MaxMindDbError) -> bool
     ensures { result ≡ spec_is_memory error.now }
 {
     match error {
@@ -75,11 +76,12 @@ fn is_memory(error: &MaxMindDbError) -> bool
 
 // Writes out what is buffered.
 fn flush<O: Write>(out: &mut O) -> Result<(), QueryError>
-    ensures { Appends (O.contents out.old) (O.contents out.new) [] }
+    ensures out { Appends (O.contents out.old) (O.contents out.new) [] }
+    ensures failed { IfErr result IsOfOutput }
 {
     match out.flush() {
         Ok(()) => Ok(()),
-        Err(error) => Err(QueryError::of_write(error)),
+        Err(error) => Err(QueryError::Write(error)),
     }
 }
 
@@ -87,18 +89,21 @@ fn flush<O: Write>(out: &mut O) -> Result<(), QueryError>
 #[cold]
 #[inline(never)]
 pub(crate) fn report<O: Write, F: Faults>(
-    network: Option<IpNetwork>,
+    place: Place,
     error: &MaxMindDbError,
     out: &mut O,
     faults: &mut F,
 ) -> Result<u64, QueryError>
     ensures one { IfOk result (λ fault. (fault ≡ 1) × (spec_is_memory error.now ≡ false)) }
     ensures out { Appends (O.contents out.old) (O.contents out.new) [] }
+    ensures failed { IfErr result IsOfOutput }
 {
     if is_memory(error) {
         return Err(QueryError::Memory);
     }
     flush(out)?;
-    faults.report(network, error)?;
-    Ok(1)
+    match faults.report(place, error) {
+        Ok(()) => Ok(1),
+        Err(_) => Err(QueryError::Memory),
+    }
 }

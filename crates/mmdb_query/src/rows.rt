@@ -1,7 +1,8 @@
 //! The rows of chosen networks.
-ghost use Rattle.std.specs.Prelude.{◌≡◌, [], IfOk, IfErr, IfSome, OnOk};
+ghost use Rattle.std.specs.Prelude.{◌≡◌, ℕ, List, IfOk, IfErr, IfSome, OnOk};
 ghost use Rattle.std.specs.Io.KnownBytes.{Appends};
 ghost use Rattle.mmdb_format.specs.Error.{MemoryApart};
+ghost use Rattle.mmdb_query.specs.Ends.{WritesNone, EndsBy};
 ghost use Rattle.mmdb_query.specs.Kept.{RowsFit};
 ghost use Rattle.mmdb_query.specs.Rows.{IsRow, PutsTail, puts_row, nothing};
 ghost use Rattle.mmdb_query.specs.Taking.{asks, Takes};
@@ -31,6 +32,7 @@ const LINE: usize = 1_024;
 pub(crate) struct RowMaker<'a, T: Template> {
     alloc: Global,
     template: &'a T,
+    scratch: T::Scratch,
     kept: Cache<Vec<u8>>,
 }
 
@@ -38,7 +40,7 @@ impl<'a, T: Template> RowMaker<'a, T> {
     // What rows of the same records have after their network, where that is kept.
     #[inline(always)]
     fn kept_tail<A: Answer>(&self, answer: &A) -> Option<&Vec<u8>>
-        requires { RowsFit T.is_tail (A.sections answer.now) self.now }
+        requires { RowsFit T.is_tail T.fits (A.sections answer.now) self.now }
         ensures { IfSome result (λ tail. T.is_tail self.now.template.now (A.sections answer.now)
             (A.had answer.now).offsets tail.now.items) }
     {
@@ -49,8 +51,8 @@ impl<'a, T: Template> RowMaker<'a, T> {
     fn keep<A: Answer>(&mut self, answer: &A, tail: Vec<u8>)
         requires tail { T.is_tail self.old.template.now (A.sections answer.now)
             (A.had answer.now).offsets tail.items }
-        requires fits { RowsFit T.is_tail (A.sections answer.now) self.old }
-        ensures fits { RowsFit T.is_tail (A.sections answer.now) self.new }
+        requires fits { RowsFit T.is_tail T.fits (A.sections answer.now) self.old }
+        ensures fits { RowsFit T.is_tail T.fits (A.sections answer.now) self.new }
         ensures same { self.new.template.now ≡ self.old.template.now }
     {
         if tail.len() > MOST_BYTES {
@@ -69,16 +71,16 @@ impl<'a, T: Template> RowMaker<'a, T> {
         answer: &A,
         line: &mut Vec<u8>,
     ) -> Result<(), MaxMindDbError>
-        requires { RowsFit T.is_tail (A.sections answer.now) self.old }
+        requires { RowsFit T.is_tail T.fits (A.sections answer.now) self.old }
         ensures tail { OnOk result (PutsTail (T.is_tail self.old.template.now
             (A.sections answer.now) (A.had answer.now).offsets) line.old.items line.new.items) }
         ensures unread { IfErr result (λ e. MemoryApart e
             (T.is_unread self.old.template.now (A.sections answer.now)
             (A.had answer.now).offsets)) }
-        ensures fits { RowsFit T.is_tail (A.sections answer.now) self.new }
+        ensures fits { RowsFit T.is_tail T.fits (A.sections answer.now) self.new }
         ensures same { self.new.template.now ≡ self.old.template.now }
     {
-        let tail = self.template.tail(self.alloc, answer)?;
+        let tail = self.template.tail(self.alloc, &mut self.scratch, answer)?;
         line.extend_from_slice(tail.as_slice())?;
         self.keep(answer, tail);
         Ok(())
@@ -87,13 +89,13 @@ impl<'a, T: Template> RowMaker<'a, T> {
     // Adds what a row has after its network.
     #[inline(always)]
     fn put_tail<A: Answer>(&mut self, answer: &A, line: &mut Vec<u8>) -> Result<(), MaxMindDbError>
-        requires { RowsFit T.is_tail (A.sections answer.now) self.old }
+        requires { RowsFit T.is_tail T.fits (A.sections answer.now) self.old }
         ensures tail { OnOk result (PutsTail (T.is_tail self.old.template.now
             (A.sections answer.now) (A.had answer.now).offsets) line.old.items line.new.items) }
         ensures unread { IfErr result (λ e. MemoryApart e
             (T.is_unread self.old.template.now (A.sections answer.now)
             (A.had answer.now).offsets)) }
-        ensures fits { RowsFit T.is_tail (A.sections answer.now) self.new }
+        ensures fits { RowsFit T.is_tail T.fits (A.sections answer.now) self.new }
         ensures same { self.new.template.now ≡ self.old.template.now }
     {
         if let Some(tail) = self.kept_tail(answer) {
@@ -105,14 +107,14 @@ impl<'a, T: Template> RowMaker<'a, T> {
     // Makes the row of a network.
     #[inline(always)]
     fn make<A: Answer>(&mut self, answer: &A, line: &mut Vec<u8>) -> Result<(), MaxMindDbError>
-        requires { RowsFit T.is_tail (A.sections answer.now) self.old }
+        requires { RowsFit T.is_tail T.fits (A.sections answer.now) self.old }
         ensures row { OnOk result (IsRow (T.front self.old.template.now)
             (T.is_tail self.old.template.now (A.sections answer.now))
             (A.had answer.now) line.new.items) }
         ensures unread { IfErr result (λ e. MemoryApart e
             (T.is_unread self.old.template.now (A.sections answer.now)
             (A.had answer.now).offsets)) }
-        ensures fits { RowsFit T.is_tail (A.sections answer.now) self.new }
+        ensures fits { RowsFit T.is_tail T.fits (A.sections answer.now) self.new }
         ensures same { self.new.template.now ≡ self.old.template.now }
     {
         line.clear();
@@ -132,19 +134,25 @@ pub struct Rows<'a, T: Template> {
 // Writes a row.
 #[inline(always)]
 fn write_line<O: Write>(line: &[u8], out: &mut O) -> Result<(), QueryError>
-    ensures { OnOk result (Appends (O.contents out.old) (O.contents out.new) line.now) }
+    ensures written { OnOk result (Appends (O.contents out.old) (O.contents out.new) line.now) }
+    ensures failed { IfErr result (WritesNone (O.contents out.old) (O.contents out.new)) }
 {
     match out.write_all(line) {
         Ok(()) => Ok(()),
-        Err(error) => Err(QueryError::of_write(error)),
+        Err(error) => Err(QueryError::Write(error)),
     }
 }
 
 impl<'a, T: Template> Rows<'a, T> {
-    /// No rows yet.
-    pub fn new(alloc: Global, template: &'a T) -> Result<Rows<'a, T>, AllocError>
+    /// No rows yet. They are of the records that what they are made with is of.
+    pub fn new(
+        alloc: Global,
+        template: &'a T,
+        scratch: T::Scratch,
+    ) -> Result<Rows<'a, T>, AllocError>
         ensures template { IfOk result (λ rows. rows.maker.template.now ≡ template.now) }
-        ensures kept { IfOk result (λ rows. rows.maker.kept ≡ []) }
+        ensures fits { IfOk result (λ rows. (s : List (List ℕ))
+            → T.fits template.now s scratch → RowsFit T.is_tail T.fits s rows.maker) }
     {
         let line = Vec::with_capacity(alloc, LINE)?;
         let kept = Cache::new(alloc, MOST_KEPT);
@@ -152,10 +160,18 @@ impl<'a, T: Template> Rows<'a, T> {
             maker: RowMaker {
                 alloc,
                 template,
+                scratch,
                 kept,
             },
             line,
         })
+    }
+
+    /// What they are made with.
+    pub fn scratch(&self) -> &T::Scratch
+        ensures { result.now ≡ self.now.maker.scratch }
+    {
+        &self.maker.scratch
     }
 }
 
@@ -172,7 +188,7 @@ impl<'a, T: Template> Sink for Rows<'a, T> {
 
     ghost is_unread = { T.is_unread };
 
-    ghost fits = { λ s rows. RowsFit T.is_tail s rows.maker };
+    ghost fits = { λ s rows. RowsFit T.is_tail T.fits s rows.maker };
 
     #[inline(always)]
     fn put<A: Answer, O: Write>(
@@ -188,23 +204,34 @@ impl<'a, T: Template> Sink for Rows<'a, T> {
             Err(error) => Ok(Some(error)),
         }
     }
+
+    #[cold]
+    #[inline(never)]
+    fn drop_caches(&mut self) -> bool {
+        self.maker.kept.clear();
+        true
+    }
 }
 
 /// Writes the rows of the networks of a walk that meet all conditions, reports each that can't be read, and says how many
-/// can't. An `Err` is of the output, of memory, or of a report.
+/// can't. An `Err` is of the output, or of memory: then what was written is of some first networks.
 pub fn export_rows<W: Walk, T: Template, C: Conditions, O: Write, F: Faults>(
     alloc: Global,
     walk: &mut W,
-    template: &T,
+    rows: &mut Rows<'_, T>,
     conditions: &C,
     out: &mut O,
     faults: &mut F,
 ) -> Result<u64, QueryError>
-    ensures { IfOk result (λ unread. Takes (W.comes walk.old)
+    requires { RowsFit T.is_tail T.fits (W.sections walk.old) rows.old.maker }
+    ensures rows { IfOk result (λ unread. Takes (W.comes walk.old)
         (asks C.says C.is_unread (puts_row T.front T.is_tail) T.is_unread conditions.now
-        template.now (W.sections walk.old)) nothing nothing
+        rows.old.maker.template.now (W.sections walk.old)) nothing nothing
         (O.contents out.old) (O.contents out.new) unread) }
+    ensures failed { IfErr result (EndsBy W.comes
+        (asks C.says C.is_unread (puts_row T.front T.is_tail) T.is_unread conditions.now
+        rows.old.maker.template.now (W.sections walk.old)) walk.old nothing
+        (O.contents out.old) (O.contents out.new)) }
 {
-    let mut rows = Rows::new(alloc, template)?;
-    put_each(alloc, walk, conditions, &mut rows, out, faults)
+    put_each(alloc, walk, conditions, rows, out, faults)
 }

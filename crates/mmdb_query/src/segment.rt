@@ -140,8 +140,8 @@ fn numbers_of(block: Block, is_ipv4: bool) -> NumberedNetwork
     }
 }
 
-// The network that a block is: one of IPv4, where it is to be and lies there.
-fn network_of_block(block: Block, is_ipv4: bool) -> IpNetwork
+/// The network that a block is: one of IPv4, where it is to be and lies there.
+pub(crate) fn network_of_block(block: Block, is_ipv4: bool) -> IpNetwork
     requires { IsBlock block }
     ensures kind { IsTrue (spec_is_ipv4 (ip_of result)) ↔ IsOfIpv4 is_ipv4 block }
     ensures bits { network_bits result ≡ take block.prefix (bits_of 128 block.first) }
@@ -252,5 +252,17 @@ impl<'a, S: AsSlice<u8> + Drop> Answer for Segment<'a, S> {
             }
         }
         Ok(None)
+    }
+
+    #[inline(always)]
+    fn read_record(
+        &self,
+        alloc: Global,
+        place: usize,
+    ) -> Result<Option<Value<'_>>, MaxMindDbError> {
+        if place >= self.records.len() {
+            return Ok(None);
+        }
+        self.records[place].read_along(alloc, &[])
     }
 }

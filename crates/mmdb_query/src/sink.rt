@@ -1,6 +1,8 @@
 //! What takes chosen networks.
-ghost use Rattle.std.specs.Prelude.{◌≡◌, ℕ, List, Option, IfOk};
+ghost use Rattle.std.specs.Prelude.{◌≡◌, ℕ, List, [], Option, IfOk, IfErr};
+ghost use Rattle.std.specs.Io.KnownBytes.{Appends};
 ghost use Rattle.mmdb_query.specs.Had.{Had};
+ghost use Rattle.mmdb_query.specs.Ends.{IsOfOutput, WritesNone};
 ghost use Rattle.mmdb_query.specs.Taking.{IsDone};
 
 use crate::answer::Answer;
@@ -30,7 +32,8 @@ pub trait Sink {
     /// All that it keeps by numbers of records is of records of these data sections.
     ghost fits: { List (List ℕ) → Self → Type 0 };
 
-    /// Takes a network, or answers why what it needs can't be read, unless out of memory. An `Err` is of the output or of memory.
+    /// Takes a network, or answers why what it needs can't be read, unless out of memory. An `Err` is of the output, or of memory,
+    /// and then nothing was written.
     fn put<A: Answer, O: Write>(
         &mut self,
         answer: &A,
@@ -41,6 +44,13 @@ pub trait Sink {
             (puts (form self.old) (A.sections answer.now) (A.had answer.now))
             (is_unread (form self.old) (A.sections answer.now) (A.had answer.now).offsets)
             unread (took self.old) (took self.new) (O.contents out.old) (O.contents out.new)) }
+        ensures failed { IfErr result (WritesNone (O.contents out.old) (O.contents out.new)) }
         ensures fits { fits (A.sections answer.now) self.new }
         ensures form { form self.new ≡ form self.old };
+
+    /// Drops all that it keeps to be faster. Whether that may free memory.
+    fn drop_caches(&mut self) -> bool
+        ensures fits { (s : List (List ℕ)) → fits s self.old → fits s self.new }
+        ensures form { form self.new ≡ form self.old }
+        ensures took { took self.new ≡ took self.old };
 }

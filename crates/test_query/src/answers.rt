@@ -7,8 +7,8 @@ use mmdb_vectors::failures::Failures;
 use std::alloc::{AllocError, Global};
 use std::net::{IpAddr, Ipv4Addr};
 
-/// A database and the first byte of an address; the network, the key, the offset, whether there is a record, the value at `c` and
-/// no more of it than its header.
+/// A database and the first byte of an address; the network, the key, the offset, whether there is a record, the value at `c`,
+/// no more of it than its header, the value at `c.d`, and the whole record.
 #[derive(Clone, Copy, Debug)]
 struct Row {
     tree: Tree,
@@ -17,14 +17,15 @@ struct Row {
     value: &'static str,
     outline: &'static str,
     below: &'static str,
+    record: &'static str,
 }
 
 #[rattlefmt::skip]
 const ROWS: &[Row] = &[
-    Row { tree: FIRST, first: 1, answer: "0.0.0.0/2 Some(0) None false", value: "None", outline: "None", below: "None" },
-    Row { tree: FIRST, first: 64, answer: "64.0.0.0/2 Some(1) Some(0) true", value: "Some(String(\"A\"))", outline: "Some(String(\"A\"))", below: "None" },
-    Row { tree: FIRST, first: 128, answer: "128.0.0.0/2 Some(6) Some(5) true", value: "Some(String(\"B\"))", outline: "Some(String(\"B\"))", below: "None" },
-    Row { tree: BROKEN, first: 0, answer: "0.0.0.0/2 Some(11) Some(10) true", value: "Some(Map([(\"d\", String(\"D\"))]))", outline: "Some(Map([]))", below: "Some(String(\"D\"))" },
+    Row { tree: FIRST, first: 1, answer: "0.0.0.0/2 Some(0) None false", value: "None", outline: "None", below: "None", record: "None" },
+    Row { tree: FIRST, first: 64, answer: "64.0.0.0/2 Some(1) Some(0) true", value: "Some(String(\"A\"))", outline: "Some(String(\"A\"))", below: "None", record: "Some(Map([(\"c\", String(\"A\"))]))" },
+    Row { tree: FIRST, first: 128, answer: "128.0.0.0/2 Some(6) Some(5) true", value: "Some(String(\"B\"))", outline: "Some(String(\"B\"))", below: "None", record: "Some(Map([(\"c\", String(\"B\"))]))" },
+    Row { tree: BROKEN, first: 0, answer: "0.0.0.0/2 Some(11) Some(10) true", value: "Some(Map([(\"d\", String(\"D\"))]))", outline: "Some(Map([]))", below: "Some(String(\"D\"))", record: "Some(Map([(\"c\", Map([(\"d\", String(\"D\"))]))]))" },
 ];
 
 // What an answer has at a path, and of it no more than its header.
@@ -53,6 +54,8 @@ fn expect_answer<A: Answer>(failures: &mut Failures, alloc: Global, answer: &A, 
     failures.expect_text(row, read(alloc, answer, &path[..1], false), row.value);
     failures.expect_text(row, read(alloc, answer, &path[..1], true), row.outline);
     failures.expect_text(row, read(alloc, answer, &path, false), row.below);
+    failures.expect_text(row, shown(alloc, answer.read_record(alloc, 0)), row.record);
+    failures.expect_text(row, shown(alloc, answer.read_record(alloc, 1)), "None");
 }
 
 #[test]

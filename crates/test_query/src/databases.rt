@@ -1,7 +1,7 @@
-//! Small databases of IPv4, whose networks and records can be seen in their nodes.
+//! Small databases, whose networks and records can be seen in their nodes.
 use mmdb_reader::{MaxMindDbError, Reader};
 use mmdb_vectors::builder::{Changes, Field, changed_file, nodes_24};
-use std::alloc::{AllocError, Global};
+use std::alloc::Global;
 
 /// `{"c":"A"}` at 0, `{"c":"B"}` at 5, `{"c":{"d":"D"}}` at 10, and at 18 a map whose text has no end.
 const DATA: &[u8] = b"\xE1\x41c\x41A\xE1\x41c\x41B\xE1\x41c\xE1\x41d\x41D\xE1\x41c\x5D";
@@ -38,6 +38,12 @@ pub const FAULTY: Tree = Tree {
     count: b"\xC1\x03",
 };
 
+/// 0.0.0.0/2 has A, 64.0.0.0/2 leads outside the data, 128.0.0.0/2 has B.
+pub const FAULTY_BEHIND: Tree = Tree {
+    nodes: &[(1, 2), (19, 200), (24, 3)],
+    count: b"\xC1\x03",
+};
+
 /// 0.0.0.0/1 has A, 128.0.0.0/2 too, 192.0.0.0/3 too, and so on up to 255.255.255.254/32.
 #[rattlefmt::skip]
 pub const RISES: Tree = Tree {
@@ -62,15 +68,54 @@ pub const FALLS: Tree = Tree {
     count: b"\xC1\x20",
 };
 
-// The bytes of a database.
-fn bytes_of(alloc: Global, tree: Tree) -> Result<Vec<u8>, AllocError> {
+/// Of IPv6: ::/1 has A, 8000::/1 B.
+pub const WIDE: Tree = Tree {
+    nodes: &[(17, 22)],
+    count: b"\xC1\x01",
+};
+
+/// Of IPv6: 0.0.0.0/1 has A, 128.0.0.0/1 B, 8000::/1 B.
+#[rattlefmt::skip]
+pub const MIXED: Tree = Tree {
+    nodes: &[
+        (1, 118), (2, 97), (3, 97), (4, 97), (5, 97), (6, 97), (7, 97), (8, 97),
+        (9, 97), (10, 97), (11, 97), (12, 97), (13, 97), (14, 97), (15, 97), (16, 97),
+        (17, 97), (18, 97), (19, 97), (20, 97), (21, 97), (22, 97), (23, 97), (24, 97),
+        (25, 97), (26, 97), (27, 97), (28, 97), (29, 97), (30, 97), (31, 97), (32, 97),
+        (33, 97), (34, 97), (35, 97), (36, 97), (37, 97), (38, 97), (39, 97), (40, 97),
+        (41, 97), (42, 97), (43, 97), (44, 97), (45, 97), (46, 97), (47, 97), (48, 97),
+        (49, 97), (50, 97), (51, 97), (52, 97), (53, 97), (54, 97), (55, 97), (56, 97),
+        (57, 97), (58, 97), (59, 97), (60, 97), (61, 97), (62, 97), (63, 97), (64, 97),
+        (65, 97), (66, 97), (67, 97), (68, 97), (69, 97), (70, 97), (71, 97), (72, 97),
+        (73, 97), (74, 97), (75, 97), (76, 97), (77, 97), (78, 97), (79, 97), (80, 97),
+        (81, 97), (82, 97), (83, 97), (84, 97), (85, 97), (86, 97), (87, 97), (88, 97),
+        (89, 97), (90, 97), (91, 97), (92, 97), (93, 97), (94, 97), (95, 97), (96, 97),
+        (113, 118),
+    ],
+    count: b"\xC1\x61",
+};
+
+// A reader of a database with these changes of its metadata.
+fn changed_reader(
+    alloc: Global,
+    tree: Tree,
+    changes: Changes<'_>,
+) -> Result<Reader<Vec<u8>>, MaxMindDbError> {
     let nodes = nodes_24(alloc, tree.nodes)?;
-    let changes: Changes<'_> = &[(Field::NodeCount, tree.count)];
-    changed_file(alloc, nodes.as_slice(), DATA, changes)
+    let bytes = changed_file(alloc, nodes.as_slice(), DATA, changes)?;
+    Reader::from_source(alloc, bytes)
 }
 
-/// A reader of a database.
+/// A reader of a database of IPv4.
 pub fn reader_of(alloc: Global, tree: Tree) -> Result<Reader<Vec<u8>>, MaxMindDbError> {
-    let bytes = bytes_of(alloc, tree)?;
-    Reader::from_source(alloc, bytes)
+    changed_reader(alloc, tree, &[(Field::NodeCount, tree.count)])
+}
+
+/// A reader of a database of IPv6.
+pub fn ipv6_reader_of(alloc: Global, tree: Tree) -> Result<Reader<Vec<u8>>, MaxMindDbError> {
+    let changes: Changes<'_> = &[
+        (Field::NodeCount, tree.count),
+        (Field::IpVersion, b"\xA1\x06"),
+    ];
+    changed_reader(alloc, tree, changes)
 }

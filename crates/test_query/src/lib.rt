@@ -6,6 +6,8 @@ mod answers;
 #[cfg(test)]
 mod databases;
 #[cfg(test)]
+mod parts;
+#[cfg(test)]
 mod queries;
 #[cfg(test)]
 mod several;

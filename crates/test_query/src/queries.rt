@@ -1,11 +1,11 @@
 //! Rows and sets of addresses of chosen networks, in databases whose networks are known by their nodes.
 ghost use Rattle.std.specs.Prelude.{⊤, ℕ, List};
 
-use super::databases::{BROKEN, FIRST, HALF, Tree, reader_of};
+use super::databases::{BROKEN, FAULTY, FAULTY_BEHIND, FIRST, HALF, Tree, reader_of};
 use mmdb_blocks::{Block, BlockKind};
 use mmdb_query::{
-    Addresses, Answer, Conditions, Faults, QueryError, Template, blocks, export_rows, gather_all,
-    list_all,
+    Addresses, Answer, Conditions, Faults, Place, QueryError, Rows, Template, blocks, export_rows,
+    gather_all, list_all,
 };
 use mmdb_reader::{IpNetwork, MaxMindDbError, PathElement, WithinOptions};
 use mmdb_value::Value;
@@ -55,17 +55,26 @@ fn push_cell(value: Option<&Value<'_>>, tail: &mut Vec<u8>) -> Result<(), AllocE
 }
 
 impl Template for Cells {
+    type Scratch = ();
+
     ghost front = { λ t. t.front.now };
 
     ghost is_tail = { λ _ _ _ _. ⊤ };
 
     ghost is_unread = { λ _ _ _. ⊤ };
 
+    ghost fits = { λ _ _ _. ⊤ };
+
     fn front(&self) -> &[u8] {
         self.front.as_bytes()
     }
 
-    fn tail<A: Answer>(&self, alloc: Global, answer: &A) -> Result<Vec<u8>, MaxMindDbError> {
+    fn tail<A: Answer>(
+        &self,
+        alloc: Global,
+        _scratch: &mut (),
+        answer: &A,
+    ) -> Result<Vec<u8>, MaxMindDbError> {
         let mut tail = Vec::new(alloc);
         tail.push(b' ')?;
         let value = answer.read_along(alloc, FIELD)?;
@@ -82,18 +91,19 @@ pub struct Reported {
 }
 
 impl Faults for Reported {
-    fn report(
-        &mut self,
-        network: Option<IpNetwork>,
-        _error: &MaxMindDbError,
-    ) -> Result<(), QueryError> {
-        match network {
-            Some(network) => network.push_text(&mut self.text)?,
-            None => self.text.push(b'-')?,
+    fn report(&mut self, place: Place, _error: &MaxMindDbError) -> Result<(), AllocError> {
+        match place {
+            Place::At(network) => network.push_text(&mut self.text)?,
+            Place::Behind(network) => {
+                self.text.push(b'>')?;
+                network.push_text(&mut self.text)?;
+            }
+            Place::First => self.text.push(b'-')?,
         }
-        self.text.push(b'!')?;
-        Ok(())
+        Ok(self.text.push(b'!')?)
     }
+
+    fn passed(&mut self, _networks: u64) {}
 }
 
 /// A database, what its field has to be, what rows begin with; the rows, the networks that can't be read, and the blocks of the
@@ -119,6 +129,9 @@ const ROWS: &[Row] = &[
     // all are put without conditions, though the row of one can't be read
     Row { tree: BROKEN, text: None, front: "", rows: "0.0.0.0/2 ?\n192.0.0.0/2 A\n", unread: "64.0.0.0/2!", count: 1, unmet: "", blocks: "0.0.0.0/1 192.0.0.0/2 " },
     Row { tree: BROKEN, text: Some("A"), front: "", rows: "192.0.0.0/2 A\n", unread: "64.0.0.0/2!", count: 1, unmet: "64.0.0.0/2!", blocks: "192.0.0.0/2 " },
+    // one that is not known is the next behind the last
+    Row { tree: FAULTY, text: None, front: "", rows: "128.0.0.0/2 B\n192.0.0.0/2 A\n", unread: "-!", count: 1, unmet: "-!", blocks: "128.0.0.0/1 " },
+    Row { tree: FAULTY_BEHIND, text: None, front: "", rows: "0.0.0.0/2 A\n128.0.0.0/2 B\n", unread: ">0.0.0.0/2!", count: 1, unmet: ">0.0.0.0/2!", blocks: "0.0.0.0/2 128.0.0.0/2 " },
     Row { tree: HALF, text: None, front: "", rows: "0.0.0.0/1 B\n", unread: "", count: 0, unmet: "", blocks: "0.0.0.0/1 " },
 ];
 
@@ -159,10 +172,11 @@ fn rows_of(alloc: Global, row: &Row) -> Result<Came, QueryError> {
     let mut text = Vec::new(alloc);
     let conditions = Is { text: row.text };
     let template = Cells { front: row.front };
+    let mut rows = Rows::new(alloc, &template, ())?;
     let count = export_rows(
         alloc,
         &mut walk,
-        &template,
+        &mut rows,
         &conditions,
         &mut text,
         &mut faults,

@@ -2,7 +2,7 @@
 use super::databases::{BROKEN, FALLS, FAULTY, FIRST, HALF, RISES, Tree, reader_of};
 use super::queries::{Came, Cells, Is, Reported, is_came, push_networks};
 use mmdb_compare::AskedDatabase;
-use mmdb_query::{Addresses, Many, QueryError, blocks, export_rows, gather};
+use mmdb_query::{Addresses, Many, QueryError, Rows, blocks, export_rows, gather};
 use mmdb_reader::{IpNetwork, MaxMindDbError, Reader};
 use mmdb_vectors::failures::Failures;
 use std::alloc::Global;
@@ -98,17 +98,19 @@ fn rows_of(alloc: Global, trees: &[Tree], text: Option<&'static str>) -> Result<
     let mut faults = Reported {
         text: Vec::new(alloc),
     };
-    let mut rows = Vec::new(alloc);
+    let mut written = Vec::new(alloc);
+    let template = Cells { front: "" };
+    let mut rows = Rows::new(alloc, &template, ())?;
     let count = export_rows(
         alloc,
         &mut walk,
-        &Cells { front: "" },
-        &Is { text },
         &mut rows,
+        &Is { text },
+        &mut written,
         &mut faults,
     )?;
     Ok(Came {
-        text: rows,
+        text: written,
         reported: faults.text,
         count,
     })

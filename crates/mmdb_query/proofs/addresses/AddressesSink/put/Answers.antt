@@ -3,5 +3,5 @@ use Rattle.std.proofs.KnownBytes.{Appends-nil}
 use Rattle.mmdb_query.proofs.SetLaws.{adds_had}
 use Rattle.mmdb_query.proofs.addresses.AddressesSink.put.Goals as goal
 
-pub returns-clause-done : goal.returns-clause-done
-returns-clause-done g c = ([], (adds_had (g.A.Answer.had c.args.answer.now) c.network.result c.args.self.now c.add.new.self c.network.ensures c.in_ok-add.ensures, refl), Appends-nil (g.O.Write.contents c.args._out.now))
+pub returns-in-Ok-clause-done : goal.returns-in-Ok-clause-done
+returns-in-Ok-clause-done g c = ([], (adds_had (g.A.Answer.had c.args.answer.now) c.network.result c.args.self.now c.add.new.self c.network.ensures c.in-Ok.ensures, refl), Appends-nil (g.O.Write.contents c.args._out.now))

@@ -1,0 +1,5 @@
+mod MetLaws
+mod AlongLaws
+mod DecidedLaws
+mod LabelLaws
+mod ColumnLaws

@@ -1,0 +1,8 @@
+use Rattle.mmdb_query.specs.Reading.{outlines_of}
+use Rattle.mmdb_query_forms.proofs.AlongLaws.{read_alike}
+use Rattle.mmdb_query_forms.proofs.along.AlongReadAlong.outline_along.Goals as goal
+
+pub returns : goal.returns
+returns g c =
+    let answer = c.args.self.now.answer.now in
+    read_alike (outlines_of (g.A.Answer.sections answer) (g.A.Answer.had answer).offsets c.args.path.now) c.outline_along.result c.outline_along.ensures

@@ -1,0 +1,7 @@
+-- What contracts of public items name.
+pub mod Met
+pub mod Decided
+pub mod Labels
+pub mod Columns
+-- What only contracts of private functions and proofs name.
+pub mod Puts

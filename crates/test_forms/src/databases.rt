@@ -1,0 +1,25 @@
+//! Small databases of IPv4, whose networks and records can be seen in their nodes.
+use mmdb_reader::{MaxMindDbError, Reader};
+use mmdb_vectors::builder::{Changes, Field, changed_file, nodes_24};
+use std::alloc::Global;
+
+/// `{"c":"A1"}` at 0, `{"c":{"d":"D"},"n":7}` at 6, `{"c":"B1","n":5}` at 18, and at 28 a map whose text has no end.
+const DATA: &[u8] =
+    b"\xE1\x41c\x42A1\xE2\x41c\xE1\x41d\x41D\x41n\xA1\x07\xE2\x41c\x42B1\x41n\xA1\x05\xE1\x41c\x5D";
+
+/// The three nodes of a database: a record of 3 has no data, and one of 19 has that at 0.
+pub type Tree = [(u32, u32); 3];
+
+/// 64.0.0.0/2 has A1, 128.0.0.0/2 a map and 7, 192.0.0.0/2 B1 and 5.
+pub const FIRST: Tree = [(1, 2), (3, 19), (25, 37)];
+
+/// 0.0.0.0/2 has what can't be read, 128.0.0.0/2 B1 and 5, 192.0.0.0/2 A1.
+pub const BROKEN: Tree = [(1, 2), (47, 3), (37, 19)];
+
+/// A reader of a database.
+pub fn reader_of(alloc: Global, tree: &Tree) -> Result<Reader<Vec<u8>>, MaxMindDbError> {
+    let nodes = nodes_24(alloc, tree)?;
+    let changes: Changes<'_> = &[(Field::NodeCount, b"\xC1\x03")];
+    let bytes = changed_file(alloc, nodes.as_slice(), DATA, changes)?;
+    Reader::from_source(alloc, bytes)
+}
