@@ -1,9 +1,8 @@
 //! What databases have for an address, as JSON.
-use crate::databases::{ShownDatabase, first_value, lookup_in};
+use crate::databases::{ShownDatabase, first_value};
 use json::{Pretty, Token, Writer};
-use mmdb_found::write_found;
 use mmdb_json::{TokenSink, write_value};
-use mmdb_layout::{ChosenFields, Database};
+use mmdb_layout::ChosenFields;
 use mmdb_reader::{IpNetwork, MaxMindDbError, PathElement};
 use mmdb_value::Value;
 use std::alloc::{AllocError, Global};
@@ -12,30 +11,28 @@ use std::net::IpAddr;
 /// The name of an answer's address.
 pub(crate) const ADDRESS: &str = "address";
 
-/// What one of several databases has for an address.
+/// What a database has for an address.
 #[derive(Drop)]
 pub(crate) struct DatabaseAnswer<'d> {
     pub(crate) network: IpNetwork,
     pub(crate) record: Option<Value<'d>>,
 }
 
-/// What is shown of an address.
+/// What is shown of values: the value at a path in the first of the databases that has one, or an object with the address and
+/// such values.
 #[derive(Clone, Copy)]
-pub(crate) enum Shown<'f, 'd, 'p> {
-    /// An object with the address, its network and its record in a database.
-    Record(&'d Database),
-    /// The value at a path in the first of the databases that has one.
-    Value(&'f [ShownDatabase<'d>], &'f [PathElement<'p>]),
-    /// An object with the address and such values.
-    Values(&'f [ShownDatabase<'d>], &'f ChosenFields<'p>),
+pub(crate) enum Shown<'f, 'p> {
+    Value(&'f [PathElement<'p>]),
+    Values(&'f ChosenFields<'p>),
 }
 
-/// An address, and what is shown of it.
+/// An address, the databases that are asked for it, and what is shown of their values.
 #[derive(Clone, Copy)]
-pub(crate) struct AddressAnswer<'f, 'd, 'p> {
+pub(crate) struct AddressValues<'f, 'd, 'p> {
     pub(crate) alloc: Global,
     pub(crate) address: IpAddr,
-    pub(crate) shown: Shown<'f, 'd, 'p>,
+    pub(crate) databases: &'f [ShownDatabase<'d>],
+    pub(crate) shown: Shown<'f, 'p>,
 }
 
 // The tokens of a key and of a text that was made, if there was memory for it.
@@ -59,16 +56,6 @@ fn begin_answer<W: TokenSink>(
     write_text(ADDRESS, address.to_string(alloc), out)
 }
 
-// The tokens of a network, and of the key of its record.
-fn write_network<W: TokenSink>(
-    alloc: Global,
-    network: IpNetwork,
-    out: &mut W,
-) -> Result<(), AllocError> {
-    write_text("network", network.to_string(alloc), out)?;
-    out.token(Token::Key("record"))
-}
-
 // The tokens of a value, or of null, and whether there is a value.
 fn write_or_null<W: TokenSink>(
     alloc: Global,
@@ -82,6 +69,17 @@ fn write_or_null<W: TokenSink>(
     Ok(value.is_some())
 }
 
+// The tokens of the network and the record that a database has, and whether there is a record.
+fn write_members<W: TokenSink>(
+    alloc: Global,
+    answer: &DatabaseAnswer<'_>,
+    out: &mut W,
+) -> Result<bool, AllocError> {
+    write_text("network", answer.network.to_string(alloc), out)?;
+    out.token(Token::Key("record"))?;
+    write_or_null(alloc, answer.record.as_ref(), out)
+}
+
 // The tokens of what one of several databases has, or of null, and whether there is a record.
 fn write_database<W: TokenSink>(
     alloc: Global,
@@ -93,8 +91,7 @@ fn write_database<W: TokenSink>(
         return Ok(false);
     };
     out.token(Token::BeginObject)?;
-    write_network(alloc, answer.network, out)?;
-    let has_record = write_or_null(alloc, answer.record.as_ref(), out)?;
+    let has_record = write_members(alloc, answer, out)?;
     out.token(Token::EndObject)?;
     Ok(has_record)
 }
@@ -105,81 +102,70 @@ fn put_lines(text: Vec<u8>, out: &mut Vec<u8>) -> Result<(), AllocError> {
     out.extend_from_slice(b"\n")
 }
 
-// The tokens of an address and what each of several databases has for it, and whether there is a record.
-fn write_records<W: TokenSink>(
-    alloc: Global,
-    address: IpAddr,
-    databases: &[ShownDatabase<'_>],
-    answers: &[Option<DatabaseAnswer<'_>>],
-    out: &mut W,
-) -> Result<bool, AllocError> {
-    begin_answer(alloc, address, out)?;
-    let mut has_record = false;
-    for (database, answer) in databases.iter().zip(answers) {
-        out.token(Token::Key(database.key))?;
-        has_record |= write_database(alloc, answer, out)?;
-    }
-    out.token(Token::EndObject)?;
-    Ok(has_record)
+/// What databases have for an address, each its answer, or none where it has none.
+#[derive(Clone, Copy)]
+pub(crate) struct AddressRecords<'d, 'f, 'v> {
+    pub(crate) alloc: Global,
+    pub(crate) address: IpAddr,
+    pub(crate) databases: &'d [ShownDatabase<'d>],
+    pub(crate) answers: &'f [Option<DatabaseAnswer<'v>>],
+    /// Whether each stands under the name of its database.
+    pub(crate) are_named: bool,
 }
 
-/// Adds an object with the address, and its network and its record in each of several databases, under their names, or null
-/// where there is no answer: in a line, or else laid out over several. Answers whether there is a record.
-pub(crate) fn put_records(
-    alloc: Global,
-    address: IpAddr,
-    databases: &[ShownDatabase<'_>],
-    answers: &[Option<DatabaseAnswer<'_>>],
-    lines: bool,
-    out: &mut Vec<u8>,
-) -> Result<bool, AllocError> {
-    if lines {
-        let mut writer = Writer::new(Vec::new(alloc));
-        let has_record = write_records(alloc, address, databases, answers, &mut writer)?;
-        put_lines(writer.into_inner(), out)?;
-        return Ok(has_record);
+impl AddressRecords<'_, '_, '_> {
+    // The tokens of what the databases have, each under its name, or else those of the one, and whether there is a record.
+    fn write_answers<W: TokenSink>(&self, out: &mut W) -> Result<bool, AllocError> {
+        let mut has_record = false;
+        for (database, answer) in self.databases.iter().zip(self.answers) {
+            if self.are_named {
+                out.token(Token::Key(database.key))?;
+                has_record |= write_database(self.alloc, answer, out)?;
+            } else if let Some(answer) = answer {
+                has_record |= write_members(self.alloc, answer, out)?;
+            }
+        }
+        Ok(has_record)
     }
-    let mut writer = Pretty::new(alloc);
-    let has_record = write_records(alloc, address, databases, answers, &mut writer)?;
-    put_lines(writer.into_inner(), out)?;
-    Ok(has_record)
-}
 
-impl AddressAnswer<'_, '_, '_> {
-    // The tokens of the address, its network and its record, and whether there is a record.
-    fn write_record<W: TokenSink>(
-        &self,
-        database: &Database,
-        out: &mut W,
-    ) -> Result<bool, MaxMindDbError> {
-        let found = lookup_in(database, self.address)?;
-        let network = found.network()?;
+    // The tokens of the address and what the databases have for it, and whether there is a record.
+    fn write<W: TokenSink>(&self, out: &mut W) -> Result<bool, AllocError> {
         begin_answer(self.alloc, self.address, out)?;
-        write_network(self.alloc, network, out)?;
-        let has_record = write_found(self.alloc, &found, &[], out)?;
+        let has_record = self.write_answers(out)?;
         out.token(Token::EndObject)?;
         Ok(has_record)
     }
 
+    /// Adds an object with the address, and its network and its record, or those in each of several databases under their names,
+    /// or null where there is no answer: in a line, or else laid out over several. Answers whether there is a record.
+    pub(crate) fn put(&self, lines: bool, out: &mut Vec<u8>) -> Result<bool, AllocError> {
+        if lines {
+            let mut writer = Writer::new(Vec::new(self.alloc));
+            let has_record = self.write(&mut writer)?;
+            put_lines(writer.into_inner(), out)?;
+            return Ok(has_record);
+        }
+        let mut writer = Pretty::new(self.alloc);
+        let has_record = self.write(&mut writer)?;
+        put_lines(writer.into_inner(), out)?;
+        Ok(has_record)
+    }
+}
+
+impl AddressValues<'_, '_, '_> {
     // The tokens of a value, and whether there is one.
     fn write_value<W: TokenSink>(
         &self,
-        databases: &[ShownDatabase<'_>],
         path: &[PathElement<'_>],
         out: &mut W,
     ) -> Result<bool, MaxMindDbError> {
-        if let [only] = databases {
-            let found = lookup_in(only.database, self.address)?;
-            return write_found(self.alloc, &found, path, out);
-        }
-        let value = first_value(self.alloc, databases, self.address, path)?;
+        let value = first_value(self.alloc, self.databases, self.address, path)?;
         Ok(write_or_null(self.alloc, value.as_ref(), out)?)
     }
 
     // The tokens of the address and values, and whether none is missing.
     fn write_values<W: TokenSink>(
         &self,
-        databases: &[ShownDatabase<'_>],
         fields: &ChosenFields<'_>,
         out: &mut W,
     ) -> Result<bool, MaxMindDbError> {
@@ -187,7 +173,7 @@ impl AddressAnswer<'_, '_, '_> {
         let mut are_found = true;
         for (name, path) in fields.names.iter().zip(&fields.paths) {
             out.token(Token::Key(*name))?;
-            are_found &= self.write_value(databases, path.as_slice(), out)?;
+            are_found &= self.write_value(path.as_slice(), out)?;
         }
         out.token(Token::EndObject)?;
         Ok(are_found)
@@ -196,9 +182,8 @@ impl AddressAnswer<'_, '_, '_> {
     // The tokens of what is shown, and whether nothing is missing.
     fn write<W: TokenSink>(&self, out: &mut W) -> Result<bool, MaxMindDbError> {
         match self.shown {
-            Shown::Record(database) => self.write_record(database, out),
-            Shown::Value(databases, path) => self.write_value(databases, path, out),
-            Shown::Values(databases, fields) => self.write_values(databases, fields, out),
+            Shown::Value(path) => self.write_value(path, out),
+            Shown::Values(fields) => self.write_values(fields, out),
         }
     }
 

@@ -1,5 +1,5 @@
 //! The command `show`.
-use crate::answer::{ADDRESS, AddressAnswer, DatabaseAnswer, Shown, put_records};
+use crate::answer::{ADDRESS, AddressRecords, AddressValues, DatabaseAnswer, Shown};
 use crate::asked::AskedTexts;
 use crate::databases::{ShownDatabase, answers_of, lookup_in, name_at_fault, shown_databases};
 use mmdb_arguments::{NoRequest, ShowArguments};
@@ -38,68 +38,58 @@ fn show_task<'a>(alloc: Global, arguments: &ShowArguments<'a>) -> Result<ShowTas
     })
 }
 
-// Adds the values of an address, each alone, and answers whether none was missing.
-fn put_values(
-    alloc: Global,
-    databases: &[ShownDatabase<'_>],
-    address: IpAddr,
-    paths: &[Vec<PathElement<'_>>],
-    lines: bool,
-    out: &mut Vec<u8>,
-) -> Result<bool, MaxMindDbError> {
-    let mut are_found = true;
-    for path in paths {
-        let value = AddressAnswer {
-            alloc,
-            address,
-            shown: Shown::Value(databases, path.as_slice()),
-        };
-        are_found &= value.put(lines, out)?;
-    }
-    Ok(are_found)
-}
-
 /// Databases that are asked, and how.
 #[derive(Clone, Copy)]
 struct Asking<'d, 'a> {
     databases: &'d [ShownDatabase<'d>],
-    /// Whether an answer has what each of several databases has.
+    /// Whether several are named, so that what each has stands under its name.
     are_several: bool,
     task: &'d ShowTask<'a>,
     lines: bool,
 }
 
 impl Asking<'_, '_> {
-    // Adds the network and the record of an address, or its values, and answers whether nothing was missing.
-    fn put_answer(
+    // Adds what is shown of the values of an address, and answers whether nothing was missing.
+    fn put_shown(
+        &self,
+        alloc: Global,
+        address: IpAddr,
+        shown: Shown<'_, '_>,
+        out: &mut Vec<u8>,
+    ) -> Result<bool, MaxMindDbError> {
+        let values = AddressValues {
+            alloc,
+            address,
+            databases: self.databases,
+            shown,
+        };
+        values.put(self.lines, out)
+    }
+
+    // Adds the values of an address, and answers whether none was missing.
+    fn put_values(
         &self,
         alloc: Global,
         address: IpAddr,
         out: &mut Vec<u8>,
     ) -> Result<bool, MaxMindDbError> {
         let fields = &self.task.fields;
-        let shown = if fields.is_named {
-            Shown::Values(self.databases, fields)
-        } else if let ([only], []) = (self.databases, fields.paths.as_slice()) {
-            Shown::Record(only.database)
-        } else {
-            let paths = fields.paths.as_slice();
-            return put_values(alloc, self.databases, address, paths, self.lines, out);
-        };
-        let answer = AddressAnswer {
-            alloc,
-            address,
-            shown,
-        };
-        answer.put(self.lines, out)
+        if fields.is_named {
+            return self.put_shown(alloc, address, Shown::Values(fields), out);
+        }
+        let mut are_found = true;
+        for path in &fields.paths {
+            are_found &= self.put_shown(alloc, address, Shown::Value(path.as_slice()), out)?;
+        }
+        Ok(are_found)
     }
 }
 
-// Adds an object with what each database has for an address, and answers whether one has a record. Nothing is added where none
+// Adds an object with what the databases have for an address, and answers whether one has a record. Nothing is added where none
 // could be read.
-fn put_answers(
+fn put_answers<'d>(
     alloc: Global,
-    asking: &Asking<'_, '_>,
+    asking: &Asking<'d, '_>,
     address: IpAddr,
     answers: &[Option<DatabaseAnswer<'_>>],
     out: &mut Vec<u8>,
@@ -107,26 +97,42 @@ fn put_answers(
     if answers.iter().all(|answer| answer.is_none()) {
         return Ok(false);
     }
-    put_records(alloc, address, asking.databases, answers, asking.lines, out)
+    let records = AddressRecords {
+        alloc,
+        address,
+        databases: asking.databases,
+        answers,
+        are_named: asking.are_several,
+    };
+    records.put(asking.lines, out)
 }
 
 // What an error of an address is said of: of several databases the one with the error is named.
+fn name_of(
+    alloc: Global,
+    asking: &Asking<'_, '_>,
+    name: Option<&str>,
+    address: IpAddr,
+) -> Result<String, AllocError> {
+    match name {
+        Some(name) if asking.are_several => format!(in alloc; "{name}: {address}"),
+        _ => address.to_string(alloc),
+    }
+}
+
+// What an error of the values of an address is said of.
 fn place_of_fault(
     alloc: Global,
     asking: &Asking<'_, '_>,
     address: IpAddr,
 ) -> Result<String, AllocError> {
     let paths = asking.task.fields.paths.as_slice();
-    if asking.are_several
-        && let Some(name) = name_at_fault(alloc, asking.databases, address, paths)
-    {
-        return format!(in alloc; "{name}: {address}");
-    }
-    address.to_string(alloc)
+    let name = name_at_fault(alloc, asking.databases, address, paths);
+    name_of(alloc, asking, name, address)
 }
 
-// Writes what was made for an address, reports its error if it has one, and answers the status of it.
-fn put_shown<O: Write, E: Write>(
+// Writes the values that were made for an address, reports its error if it has one, and answers the status of it.
+fn put_made<O: Write, E: Write>(
     asking: &Asking<'_, '_>,
     address: IpAddr,
     text: &[u8],
@@ -156,7 +162,7 @@ fn show_records<O: Write, E: Write>(
     let has_record = put_answers(alloc, asking, address, found.answers.as_slice(), &mut text)?;
     console.put(text.as_slice())?;
     for (name, error) in &found.errors {
-        console.report_behind(format!(in alloc; "{name}: {address}"), error)?;
+        console.report_behind(name_of(alloc, asking, Some(*name), address), error)?;
     }
     Ok(match (found.errors.is_empty(), has_record) {
         (false, _) => FAILED,
@@ -171,12 +177,12 @@ fn show_one<O: Write, E: Write>(
     address: IpAddr,
     console: &mut Console<'_, O, E>,
 ) -> Result<u8, ProgramError> {
-    if asking.are_several && asking.task.fields.paths.is_empty() {
+    if asking.task.fields.paths.is_empty() {
         return show_records(asking, address, console);
     }
     let mut text = Vec::new(console.alloc);
-    let shown = asking.put_answer(console.alloc, address, &mut text);
-    let status = put_shown(asking, address, text.as_slice(), &shown, console);
+    let shown = asking.put_values(console.alloc, address, &mut text);
+    let status = put_made(asking, address, text.as_slice(), &shown, console);
     drop(shown);
     status
 }

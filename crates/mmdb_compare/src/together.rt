@@ -1,5 +1,5 @@
 //! Any number of databases side by side.
-ghost use Rattle.std.specs.Prelude.{MatchOption, IfOk, ◌≡◌, map};
+ghost use Rattle.std.specs.Prelude.{MatchOption, IfOk, ◌≡◌, map, length};
 ghost use Rattle.mmdb_compare.specs.Listed.{all_of};
 ghost use Rattle.mmdb_compare.specs.Parts.{start_of};
 ghost use Rattle.mmdb_compare.specs.Found.{numbered_ip, AreFoundAt};
@@ -106,6 +106,15 @@ impl<'a, S: AsSlice<u8> + Drop> Together<'a, S> {
         ensures { self.exit.now ≡ self.entry.now }
     {
         self.list.take_unread(place)
+    }
+
+    /// How many databases there are.
+    #[inline(always)]
+    pub fn count(&self) -> usize
+        ensures answers { result ≡ length self.now.answers }
+        ensures databases { result ≡ length self.now.databases }
+    {
+        self.list.count()
     }
 
     /// Where the record is of the database at a place in the last stretch, if it has one.

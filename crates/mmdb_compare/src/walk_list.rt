@@ -1,5 +1,5 @@
 //! The walks of any number of databases side by side.
-ghost use Rattle.std.specs.Prelude.{◌≡◌, ◌&&◌, ◌||◌, min, map, MatchOption, IfOk};
+ghost use Rattle.std.specs.Prelude.{◌≡◌, ◌&&◌, ◌||◌, min, map, length, MatchOption, IfOk};
 ghost use Rattle.std.specs.List.{All};
 ghost use Rattle.mmdb_compare.specs.Listed.{all_of};
 ghost use Rattle.mmdb_compare.specs.Walks.{left_of, IsFrom, last_here, is_record_here};
@@ -127,6 +127,14 @@ impl<'a, S: AsSlice<u8> + Drop> WalkList<'a, S> {
             }
         }
         false
+    }
+
+    /// How many there are.
+    #[inline(always)]
+    pub(crate) fn count(&self) -> usize
+        ensures { result ≡ length self.now.walks.items }
+    {
+        self.walks.len()
     }
 
     /// Where the record is that the one at a place has for an address that it went on to, if it has one.

@@ -1,5 +1,5 @@
 -- What is kept by numbers of records.
-use Rattle.std.proofs.Common.{◌≡◌, ◌<◌, ℕ, List, [], Option, Some, None, Bool, inl, inr, sym, subst, arith}
+use Rattle.std.proofs.Common.{◌≡◌, ◌<◌, ℕ, List, [], Option, Some, None, IfSome, Bool, inl, inr, sym, subst, arith}
 use Rattle.std.specs.List.{All, Contains}
 use Rattle.std.specs.Global.{Vec}
 use Rattle.std.proofs.lemmas.List.Elements.{All-contains}
@@ -11,7 +11,7 @@ use Rattle.mmdb_query.specs.Keys.{IsKey}
 use Rattle.mmdb_query.specs.declared.choice.Choice.{Choice}
 use Rattle.mmdb_query.specs.declared.choice.RecordKey.{RecordKey}
 use Rattle.mmdb_query.specs.declared.rows.RowMaker.{RowMaker}
-use Rattle.mmdb_query.specs.Kept.{MayTail, MaySay, no_number, IsOfNone, IsSaid, AreSaid, IsTailKept, AreTailsKept, RowsFit, ChoiceFits, IsFresh}
+use Rattle.mmdb_query.specs.Kept.{MayTail, MaySay, no_number, IsOfNone, IsSaid, AreSaid, IsTailKept, AreTailsKept, IsLastKept, RowsFit, ChoiceFits, IsFresh}
 use Rattle.mmdb_query.proofs.KeyLaws.{one_key}
 
 -- ---- what conditions say
@@ -60,6 +60,15 @@ module _ (is_tail : MayTail) (s : List (List ℕ)) where
   more_tails offsets before after key bytes tail is tails known all k d within =
       one_tail before (record { key = key; value = tail; bytes = bytes }) _ all (λ others are. subst (λ o. is_tail s o tail.items) (one_key s offsets others key is are) tails) (known k d within)
 
+  -- what was made last, of some records
+  pub last_kept : (offsets : List (Option ℕ)) (key : Option ℕ) (tail : List ℕ) → IfSome key (IsKey s offsets) → is_tail s offsets tail → IsLastKept is_tail s key tail
+  last_kept offsets None tail is tails = tt
+  last_kept offsets (Some key) tail is tails = λ others are. subst (λ o. is_tail s o tail) (one_key s offsets others key is are) tails
+
 pub fresh_rows : {T K : Type 0} (is_tail : T → MayTail) (fits : T → List (List ℕ) → K → Type 0) (s : List (List ℕ)) (maker : RowMaker T K)
-    → maker.kept ≡ [] → fits maker.template.now s maker.scratch → RowsFit is_tail fits s maker
-fresh_rows is_tail fits s maker none scratch = record { tails = none_kept (is_tail maker.template.now) s maker.kept none; scratch = scratch }
+    → maker.kept ≡ [] → maker.last_key ≡ None → fits maker.template.now s maker.scratch → RowsFit is_tail fits s maker
+fresh_rows is_tail fits s maker none unmade scratch = record {
+  tails = none_kept (is_tail maker.template.now) s maker.kept none;
+  last = subst (λ k. IsLastKept (is_tail maker.template.now) s k maker.last.items) (sym unmade) tt;
+  scratch = scratch;
+}

@@ -11,3 +11,4 @@ mod ListLaws
 mod SegmentLaws
 mod AbreastLaws
 mod PartLaws
+mod RowLaws

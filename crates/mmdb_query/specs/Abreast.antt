@@ -1,16 +1,10 @@
 -- Several databases side by side.
-use Rattle.std.specs.Prelude.{◌≡◌, ◌↔◌, ◌<◌, ◌≤◌, ◌^◌, ◌+◌, ◌*◌, ℕ, Bool, IsTrue, List, [], ◌∷◌, length, take, map, get_or, Option, Some, None}
+use Rattle.std.specs.Prelude.{◌≡◌, ◌↔◌, ◌<◌, ◌≤◌, ◌^◌, ◌+◌, ◌*◌, ℕ, Bool, IsTrue, List, [], ◌∷◌, take, map, Option, Some}
 use Rattle.mmdb_net.specs.Bits.{bits_of}
-use Rattle.mmdb_net.specs.Network.{ip_of}
-use Rattle.mmdb_net.specs.declared.network.IpNetwork.{IpNetwork}
 use Rattle.mmdb_blocks.specs.declared.block.Block.{Block}
-use Rattle.mmdb_reader.specs.File.{Database}
-use Rattle.mmdb_reader.specs.Lookup.{CanAsk}
-use Rattle.mmdb_compare.specs.Agreeing.{IsRecordAt, IsLeftOf}
-use Rattle.mmdb_compare.specs.Coming.{Coming, Answer}
-use Rattle.mmdb_compare.specs.Together.{Abreast, AreOver, IsNextOfAll, offset_of, offset_in}
+use Rattle.mmdb_compare.specs.Coming.{Answer}
+use Rattle.mmdb_compare.specs.Together.{Abreast, AreOver, IsNextOfAll, offset_of}
 use Rattle.mmdb_compare.specs.declared.together.TogetherStretch.{TogetherStretch}
-use Rattle.mmdb_compare.specs.declared.together.TogetherPart.{TogetherPart}
 use Rattle.mmdb_compare.specs.declared.together.TogetherPart.TheVariants.{Stretch as StretchPart, Unread as UnreadPart}
 use Rattle.mmdb_query.specs.Had.{Had}
 use Rattle.mmdb_query.specs.Keys.{digit_of, radix_of}
@@ -40,32 +34,6 @@ ComesAbreast before (Found had ∷ items) =
 ComesAbreast before (Unread ∷ items) = (after : Abreast) × (place : ℕ) × IsNextOfAll before after (UnreadPart place) × ComesAbreast after items
 
 -- ---- what only contracts of private functions and proofs name
-
--- a lookup of an address finds a record at an offset, if there is one
-abbrev pub IsThere : Database → ℕ → Option ℕ → Type 0
-IsThere db address None = Unit {0}
-IsThere db address (Some offset) = IsRecordAt db address (Some offset)
-
--- of each database, where it answers a record
-pub record AreThere {D : Type 0} (database : D → Database) (address : ℕ) (asked : List D) (answers : List Answer) : Type 0 where
-  pub count : length answers ≡ length asked
-  pub each : (place : ℕ) (d : D) → place < length asked → IsThere (database (get_or asked place d)) address (offset_in answers place)
-
-abbrev pub AreThereIn : {D : Type 0} → (D → Database) → List D → Abreast → TogetherPart → Type 0
-AreThereIn database asked t (StretchPart stretch) = AreThere database stretch.block.first asked t.answers
-AreThereIn database asked t (UnreadPart place) = Unit {0}
-
--- each database can be asked for its range, and what is left of it are leaves of that
-abbrev pub AreLeft : {D : Type 0} → (D → Database) → (D → IpNetwork) → List D → List Coming → Type 0
-AreLeft database range [] [] = Unit {0}
-AreLeft database range [] (c ∷ left) = ⊥
-AreLeft database range (d ∷ asked) [] = ⊥
-AreLeft database range (d ∷ asked) (c ∷ left) =
-    CanAsk (database d) (ip_of (range d)) × IsLeftOf (database d) (range d) c × AreLeft database range asked left
-
--- so it is until all addresses are passed
-abbrev pub AreLeftIn : {D : Type 0} → (D → Database) → (D → IpNetwork) → List D → Abreast → Type 0
-AreLeftIn database range asked t = t.at < 2 ^ 128 → AreLeft database range asked t.left
 
 -- a key with one more digit
 abbrev pub IsLonger : Option ℕ → List ℕ → Option ℕ → ℕ → Type 0

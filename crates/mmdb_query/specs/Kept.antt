@@ -25,9 +25,15 @@ IsTailKept is_tail s (Some entry) = (offsets : List (Option ℕ)) → IsKey s of
 abbrev pub AreTailsKept : MayTail → List (List ℕ) → List (Option (CacheEntry (Vec ℕ))) → Type 0
 AreTailsKept is_tail s kept = All (IsTailKept is_tail s) kept
 
+-- what was made last is what rows have after their network of all records with its number, if it has one
+abbrev pub IsLastKept : MayTail → List (List ℕ) → Option ℕ → List ℕ → Type 0
+IsLastKept is_tail s None tail = Unit {0}
+IsLastKept is_tail s (Some key) tail = (offsets : List (Option ℕ)) → IsKey s offsets key → is_tail s offsets tail
+
 -- all that rows keep is of records of these data sections, and so is what a template keeps to make them
 pub record RowsFit {T K : Type 0} (is_tail : T → MayTail) (fits : T → List (List ℕ) → K → Type 0) (s : List (List ℕ)) (maker : RowMaker T K) : Type 0 where
   pub tails : AreTailsKept (is_tail maker.template.now) s maker.kept
+  pub last : IsLastKept (is_tail maker.template.now) s maker.last_key maker.last.items
   pub scratch : fits maker.template.now s maker.scratch
 
 -- the number of no records

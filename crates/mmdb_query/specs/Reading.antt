@@ -57,9 +57,9 @@ values_of = first_of value_found
 abbrev pub outlines_of : List (List ℕ) → List (Option ℕ) → List PathElement → Option (Option Tree)
 outlines_of = first_of outline_found
 
--- The record of the database at a place, which is the value at the end of the empty path: nothing where it has none.
-abbrev pub record_of : List (List ℕ) → List (Option ℕ) → ℕ → Option (Option Tree)
-record_of sections offsets place = reads_in value_found (get_or sections place []) (offset_at offsets place) []
+-- What is read along a path in the record of the database at a place: nothing where it has none.
+abbrev pub value_of : List (List ℕ) → List (Option ℕ) → ℕ → List PathElement → Option (Option Tree)
+value_of sections offsets place path = reads_in value_found (get_or sections place []) (offset_at offsets place) path
 
 -- What a reading gave is this answer. Out of memory is any answer.
 abbrev pub IsReadAs : Option (Option Tree) → Result (Option Value) MaxMindDbError → Type 0

@@ -12,6 +12,10 @@ pub record IsRow (front : List ℕ) (ends : List (Option ℕ) → List ℕ → T
   pub is_tail : ends had.offsets tail
   pub whole : row ≡ (front ++ short_text_of network) ++ tail
 
+-- the row of a network up to that
+abbrev pub IsBegun : List ℕ → Had → List ℕ → Type 0
+IsBegun front had line = (network : IpNetwork) × IsNetworkOf had network × (line ≡ front ++ short_text_of network)
+
 -- nothing is to be said
 abbrev pub nothing : Unit {0}
 nothing = tt

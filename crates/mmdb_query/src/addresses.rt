@@ -13,7 +13,7 @@ use crate::choice::Conditions;
 use crate::each::put_each;
 use crate::error::{Faults, QueryError};
 use crate::sink::Sink;
-use crate::walk::Walk;
+use crate::walk::{One, Walk};
 use mmdb_blocks::{Block, BlockRange, Ranges};
 use mmdb_reader::{IpNetwork, MaxMindDbError, Reader, WithinOptions};
 use std::alloc::{AllocError, Global};
@@ -148,9 +148,9 @@ pub fn gather_all<S: AsSlice<u8> + Drop, C: Conditions, F: Faults>(
         (C.says conditions.now (data_section reader.now ∷ []))
         (C.is_unread conditions.now (data_section reader.now ∷ [])) found.0 found.1) }
 {
-    let mut walk = match reader.networks(alloc, WithinOptions::default()) {
+    let walk = match reader.networks(alloc, WithinOptions::default()) {
         Ok(walk) => walk,
         Err(_) => return Err(QueryError::Memory),
     };
-    gather(alloc, &mut walk, conditions, faults)
+    gather(alloc, &mut One::new(walk), conditions, faults)
 }

@@ -2,7 +2,7 @@
 ghost use Rattle.std.specs.Prelude.{◌≡◌, ℕ, List, IfSome};
 ghost use Rattle.mmdb_query.specs.Had.{Had, IsNetworkOf, offset_at, has_one};
 ghost use Rattle.mmdb_query.specs.Keys.{IsKey};
-ghost use Rattle.mmdb_query.specs.Reading.{values_of, outlines_of, record_of, IsReadAs};
+ghost use Rattle.mmdb_query.specs.Reading.{values_of, outlines_of, value_of, IsReadAs};
 
 use crate::numbered::network_of;
 use crate::values::{outline_along, value_along};
@@ -53,9 +53,16 @@ pub trait Answer: Drop {
         ensures { IsReadAs (outlines_of (sections self.now) (had self.now).offsets path.now)
             result };
 
-    /// The whole record of the database at a place, if it has one. Fails, unless out of memory, where it can't be read.
-    fn read_record(&self, alloc: Global, place: usize) -> Result<Option<Value<'_>>, MaxMindDbError>
-        ensures { IsReadAs (record_of (sections self.now) (had self.now).offsets place) result };
+    /// The value at the end of a path in the record of the database at a place, if it has one there. Fails, unless out of memory,
+    /// where that can't be read. An empty path is the whole record.
+    fn read_at(
+        &self,
+        alloc: Global,
+        place: usize,
+        path: &[PathElement<'_>],
+    ) -> Result<Option<Value<'_>>, MaxMindDbError>
+        ensures { IsReadAs (value_of (sections self.now) (had self.now).offsets place path.now)
+            result };
 }
 
 /// One database.
@@ -99,7 +106,10 @@ impl<'a, S: AsSlice<u8> + Drop> Answer for LookupResult<'a, S> {
         alloc: Global,
         path: &[PathElement<'_>],
     ) -> Result<Option<Value<'_>>, MaxMindDbError> {
-        value_along(alloc, self, path)
+        match self.to_record() {
+            Some(found) => value_along(alloc, &found, path),
+            None => Ok(None),
+        }
     }
 
     #[inline(always)]
@@ -108,17 +118,21 @@ impl<'a, S: AsSlice<u8> + Drop> Answer for LookupResult<'a, S> {
         alloc: Global,
         path: &[PathElement<'_>],
     ) -> Result<Option<Value<'_>>, MaxMindDbError> {
-        outline_along(alloc, self, path)
+        match self.to_record() {
+            Some(found) => outline_along(alloc, &found, path),
+            None => Ok(None),
+        }
     }
 
     #[inline(always)]
-    fn read_record(
+    fn read_at(
         &self,
         alloc: Global,
         place: usize,
+        path: &[PathElement<'_>],
     ) -> Result<Option<Value<'_>>, MaxMindDbError> {
         if place == 0 {
-            value_along(alloc, self, &[])
+            self.read_along(alloc, path)
         } else {
             Ok(None)
         }

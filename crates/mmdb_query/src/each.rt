@@ -10,7 +10,7 @@ ghost use Rattle.mmdb_query.specs.Steps.{TakesItem, TakesStep, TakesChosen, Fits
 
 use crate::answer::Answer;
 use crate::choice::{Choice, Conditions};
-use crate::error::{Faults, Place, QueryError, is_memory, report};
+use crate::error::{Fault, Faults, QueryError, is_memory, report};
 use crate::sink::Sink;
 use crate::walk::Walk;
 use mmdb_reader::MaxMindDbError;
@@ -25,14 +25,6 @@ const STEP: u64 = 1 << 16;
 fn tell<F: Faults>(passed: u64, faults: &mut F) {
     if passed % STEP == 0 {
         faults.passed(passed);
-    }
-}
-
-// Where a network is that comes behind the last one.
-fn place_behind<A: Answer>(last: &Option<A>) -> Place {
-    match last {
-        Some(answer) => Place::Behind(answer.network()),
-        None => Place::First,
     }
 }
 
@@ -83,13 +75,13 @@ fn put<A: Answer, S: Sink, O: Write>(
     }
 }
 
-// Reports a network that can't be read, and says that it is one. Where there is no memory for that, what a sink keeps is
+// Reports what can't be read, and says that it is one. Where there is no memory for that, what a sink keeps is
 // dropped, and it is tried once more: nothing was reported.
 #[cold]
 #[inline(never)]
-fn report_of<S: Sink, O: Write, F: Faults>(
+fn report_of<A: Answer, S: Sink, O: Write, F: Faults>(
     sink: &mut S,
-    place: Place,
+    fault: &Fault<'_, A>,
     error: &MaxMindDbError,
     out: &mut O,
     faults: &mut F,
@@ -101,9 +93,9 @@ fn report_of<S: Sink, O: Write, F: Faults>(
     ensures form { S.form sink.new ≡ S.form sink.old }
     ensures took { S.took sink.new ≡ S.took sink.old }
 {
-    match report(place, error, out, faults) {
+    match report(fault, error, out, faults) {
         Err(QueryError::Memory) if !is_memory(error) && sink.drop_caches() => {
-            report(place, error, out, faults)
+            report(fault, error, out, faults)
         }
         done => done,
     }
@@ -129,7 +121,7 @@ fn put_chosen<A: Answer, S: Sink, O: Write, F: Faults>(
 {
     match put(sink, answer, out)? {
         None => Ok(0),
-        Some(error) => report_of(sink, Place::At(answer.network()), &error, out, faults),
+        Some(error) => report_of(sink, &Fault::Network(answer), &error, out, faults),
     }
 }
 
@@ -159,40 +151,40 @@ fn put_answer<A: Answer, S: Sink, C: Conditions, O: Write, F: Faults>(
     match chooses(choice, sink, answer) {
         Ok(true) => put_chosen(sink, answer, out, faults),
         Ok(false) => Ok(0),
-        Err(error) => report_of(sink, Place::At(answer.network()), &error, out, faults),
+        Err(error) => report_of(sink, &Fault::Network(answer), &error, out, faults),
     }
 }
 
-// The same of what a walk hands out behind its last network.
+// The same of the last item of a walk.
 #[inline(always)]
-fn put_item<A: Answer, S: Sink, C: Conditions, O: Write, F: Faults>(
+fn put_item<W: Walk, S: Sink, C: Conditions, O: Write, F: Faults>(
     choice: &mut Choice<'_, C>,
     sink: &mut S,
-    item: Result<A, MaxMindDbError>,
-    last: &mut Option<A>,
+    walk: &W,
+    item: Result<W::Item, MaxMindDbError>,
     out: &mut O,
     faults: &mut F,
 ) -> Result<u64, QueryError>
-    requires choice { IfOk item (λ answer. ChoiceFits C.says (A.sections answer) choice.old) }
-    requires sink { IfOk item (λ answer. S.fits (A.sections answer) sink.old) }
+    requires choice { IfOk item
+        (λ answer. ChoiceFits C.says (W.Item.sections answer) choice.old) }
+    requires sink { IfOk item (λ answer. S.fits (W.Item.sections answer) sink.old) }
     ensures put { IfOk result (λ fault. TakesStep
         (asks C.says C.is_unread S.puts S.is_unread choice.old.conditions.now (S.form sink.old))
-        A.sections A.had item fault (S.took sink.old) (S.took sink.new)
+        W.Item.sections W.Item.had item fault (S.took sink.old) (S.took sink.new)
         (O.contents out.old) (O.contents out.new)) }
     ensures failed { IfErr result (WritesNone (O.contents out.old) (O.contents out.new)) }
     ensures few { IfOk result (λ fault. fault ≤ 1) }
-    ensures choice { FitsOf A.sections (ChoiceFits C.says) item choice.old choice.new }
-    ensures sink { FitsOf A.sections S.fits item sink.old sink.new }
+    ensures choice { FitsOf W.Item.sections (ChoiceFits C.says) item choice.old choice.new }
+    ensures sink { FitsOf W.Item.sections S.fits item sink.old sink.new }
     ensures same { choice.new.conditions.now ≡ choice.old.conditions.now }
     ensures form { S.form sink.new ≡ S.form sink.old }
 {
     match item {
-        Ok(answer) => {
-            let fault = put_answer(choice, sink, &answer, out, faults)?;
-            *last = Some(answer);
-            Ok(fault)
+        Ok(answer) => put_answer(choice, sink, &answer, out, faults),
+        Err(error) => {
+            let leaf: Fault<'_, W::Item> = Fault::Leaf(walk.unread_leaf());
+            report_of(sink, &leaf, &error, out, faults)
         }
-        Err(error) => report_of(sink, place_behind(last), &error, out, faults),
     }
 }
 
@@ -222,14 +214,13 @@ pub fn put_each<W: Walk, S: Sink, C: Conditions, O: Write, F: Faults>(
     let Ok(mut choice) = Choice::new(alloc, conditions) else {
         return Err(QueryError::Memory);
     };
-    let mut last = None;
     let mut unread = 0;
     let mut passed = 0u64;
     for _ in 0..u64::MAX {
         let Some(item) = walk.next_item() else {
             return Ok(unread);
         };
-        unread += put_item(&mut choice, sink, item, &mut last, out, faults)?;
+        unread += put_item(&mut choice, sink, &*walk, item, out, faults)?;
         passed = passed.wrapping_add(1);
         tell(passed, faults);
     }

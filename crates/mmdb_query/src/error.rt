@@ -4,8 +4,10 @@ ghost use Rattle.std.specs.Io.KnownBytes.{Appends};
 ghost use Rattle.mmdb_query.specs.Ends.{IsOfOutput};
 ghost use Rattle.mmdb_query.specs.Steps.{is_memory as spec_is_memory};
 
+use crate::answer::Answer;
+use crate::walk::UnreadLeaf;
 use mmdb_blocks::RangesError;
-use mmdb_reader::{IpNetwork, MaxMindDbError};
+use mmdb_reader::MaxMindDbError;
 use std::alloc::{AllocError, AllocFailed};
 use std::io::{self, Write};
 
@@ -43,21 +45,23 @@ impl From<RangesError> for QueryError {
     }
 }
 
-/// Where a network is that can't be read.
-#[derive(Clone, Copy)]
-pub enum Place {
-    /// The network itself.
-    At(IpNetwork),
-    /// The first one that comes behind this network.
-    Behind(IpNetwork),
-    /// The first one of all.
-    First,
+/// What can't be read.
+#[derive(Drop)]
+pub enum Fault<'x, A: Answer> {
+    /// Something that is asked of what databases have in a network.
+    Network(&'x A),
+    /// A leaf of a database, whose network is not known.
+    Leaf(UnreadLeaf),
 }
 
 /// Who is told of networks.
 pub trait Faults {
-    /// A network can't be read. What was written before is flushed. An `Err` is of memory, and then nothing is reported.
-    fn report(&mut self, place: Place, error: &MaxMindDbError) -> Result<(), AllocError>;
+    /// Something can't be read. What was written before is flushed. An `Err` is of memory, and then nothing is reported.
+    fn report<A: Answer>(
+        &mut self,
+        fault: &Fault<'_, A>,
+        error: &MaxMindDbError,
+    ) -> Result<(), AllocError>;
 
     /// So many networks passed, which is said now and then.
     fn passed(&mut self, networks: u64);
@@ -85,11 +89,11 @@ fn flush<O: Write>(out: &mut O) -> Result<(), QueryError>
     }
 }
 
-/// Reports a network that can't be read, after what was written, and says that it is one; unless memory is out.
+/// Reports what can't be read, after what was written, and says that it is one; unless memory is out.
 #[cold]
 #[inline(never)]
-pub(crate) fn report<O: Write, F: Faults>(
-    place: Place,
+pub(crate) fn report<A: Answer, O: Write, F: Faults>(
+    fault: &Fault<'_, A>,
     error: &MaxMindDbError,
     out: &mut O,
     faults: &mut F,
@@ -102,7 +106,7 @@ pub(crate) fn report<O: Write, F: Faults>(
         return Err(QueryError::Memory);
     }
     flush(out)?;
-    match faults.report(place, error) {
+    match faults.report(fault, error) {
         Ok(()) => Ok(1),
         Err(_) => Err(QueryError::Memory),
     }

@@ -1,24 +1,21 @@
 //! Several databases side by side.
-ghost use Rattle.std.specs.Prelude.{◌≡◌, ◌↔◌, IsTrue, IfOk, IfErr, IfSome, IfNone, MatchOption, map, take};
-ghost use Rattle.std.specs.List.{All};
+ghost use Rattle.std.specs.Prelude.{◌≡◌, ◌↔◌, IsTrue, IfOk, IfErr, MatchOption, map, take};
 ghost use Rattle.std.specs.Net.Addr.{is_ipv4};
 ghost use Rattle.mmdb_format.specs.Error.{OfMemory, kind_of};
 ghost use Rattle.mmdb_net.specs.Bits.{bits_of};
 ghost use Rattle.mmdb_net.specs.Network.{ip_of};
 ghost use Rattle.mmdb_blocks.specs.Blocks.{IsBlock};
 ghost use Rattle.mmdb_reader.specs.File.{data_section};
-ghost use Rattle.mmdb_reader.specs.Lookup.{CanAsk};
 ghost use Rattle.mmdb_compare.specs.Listed.{all_of};
 ghost use Rattle.mmdb_compare.specs.Together.{AreBegun, AreOver, IsNextOfAll};
 ghost use Rattle.mmdb_query.specs.Had.{network_bits};
-ghost use Rattle.mmdb_query.specs.Abreast.{IsOfIpv4, offsets_said, AreThere, AreThereIn, AreLeftIn};
+ghost use Rattle.mmdb_query.specs.Abreast.{IsOfIpv4, offsets_said};
 
 use crate::segment::{DatabaseRecord, Segment};
-use crate::walk::Walk;
-use mmdb_compare::laws::answers_agree_with_lookups;
+use crate::walk::{UnreadLeaf, Walk};
 use mmdb_compare::{AskedDatabase, Together, TogetherPart, TogetherStretch};
 use mmdb_format::message::{Message, Text};
-use mmdb_reader::{IpNetwork, MaxMindDbError};
+use mmdb_reader::MaxMindDbError;
 use std::alloc::{AllocError, Global};
 use std::convert::AsSlice;
 
@@ -28,29 +25,8 @@ pub struct Many<'a, S: AsSlice<u8> + Drop> {
     alloc: Global,
     pub(crate) databases: &'a [AskedDatabase<'a, S>],
     pub(crate) together: Together<'a, S>,
-    ghost left: { ∥ AreLeftIn (λ d. d.reader.now) (λ d. d.range) databases.now together ∥₁ },
-}
-
-// Whether a database can be asked for its range.
-fn can_be_asked<S: AsSlice<u8> + Drop>(asked: &AskedDatabase<'_, S>) -> bool
-    ensures { IsTrue result ↔ CanAsk asked.now.reader.now (ip_of asked.now.range) }
-{
-    match asked.range {
-        IpNetwork::V4(_) => true,
-        IpNetwork::V6(_) => asked.reader.metadata().ip_version == 6,
-    }
-}
-
-// The place of the first database that can't be asked for its range.
-fn first_unasked<S: AsSlice<u8> + Drop>(databases: &[AskedDatabase<'_, S>]) -> Option<usize>
-    ensures { IfNone result (All (λ d. CanAsk d.reader.now (ip_of d.range)) databases.now) }
-{
-    for place in 0..databases.len() {
-        if !can_be_asked(&databases[place]) {
-            return Some(place);
-        }
-    }
-    None
+    unread: UnreadLeaf,
+    ghost of_these: { together.databases ≡ map (λ d. d.reader.now) databases.now },
 }
 
 impl<'a, S: AsSlice<u8> + Drop> Many<'a, S> {
@@ -64,15 +40,14 @@ impl<'a, S: AsSlice<u8> + Drop> Many<'a, S> {
         ensures begun { IfOk result (λ many.
             AreBegun (map (λ d. all_of d.reader.now d.range) databases.now) many.together) }
     {
-        answers_agree_with_lookups();
-        if let Some(place) = first_unasked(databases) {
-            let message = Message::Fixed(Text::Ipv6InIpv4Range);
-            return Err((place, MaxMindDbError::InvalidInput { message }));
-        }
         Ok(Many {
             alloc,
             databases,
             together: Together::new(alloc, databases)?,
+            unread: UnreadLeaf {
+                place: 0,
+                behind: None,
+            },
         })
     }
 
@@ -80,28 +55,23 @@ impl<'a, S: AsSlice<u8> + Drop> Many<'a, S> {
     fn next_part(&mut self) -> Option<TogetherPart>
         ensures next { MatchOption result (AreOver self.old.together self.new.together)
             (IsNextOfAll self.old.together self.new.together) }
-        ensures there { IfSome result (λ part. ∥ AreThereIn (λ d. d.reader.now)
-            self.old.databases.now self.new.together part ∥₁) }
         ensures databases { self.new.databases.now ≡ self.old.databases.now }
     {
-        answers_agree_with_lookups();
         self.together.next_part()
     }
 
-    // Where each database has its record at the first address of the last stretch.
-    fn records(&self, address: u128) -> Result<Vec<DatabaseRecord<'a, S>>, AllocError>
-        requires { ∥ AreThere (λ d. d.reader.now) address self.now.databases.now
-            self.now.together.answers ∥₁ }
+    // Where each database has its record in the last stretch.
+    fn records(&self) -> Result<Vec<DatabaseRecord<'a, S>>, AllocError>
         ensures sections { IfOk result (λ records. map (λ r. data_section r.reader.now)
             records.items ≡ map (λ d. data_section d.reader.now) self.now.databases.now) }
         ensures offsets { IfOk result (λ records. map (λ r. r.offset) records.items
             ≡ offsets_said self.now.together.answers) }
     {
-        let mut records = Vec::with_capacity(self.alloc, self.databases.len())?;
-        for place in 0..self.databases.len() {
+        let count = self.together.count();
+        let mut records = Vec::with_capacity(self.alloc, count)?;
+        for place in 0..count {
             records.push(DatabaseRecord {
                 reader: self.databases[place].reader,
-                address,
                 offset: self.together.offset(place),
             })?;
         }
@@ -110,9 +80,7 @@ impl<'a, S: AsSlice<u8> + Drop> Many<'a, S> {
 
     // What the databases have in the last stretch.
     fn segment(&self, stretch: TogetherStretch) -> Result<Segment<'a, S>, MaxMindDbError>
-        requires block { IsBlock stretch.block }
-        requires there { ∥ AreThere (λ d. d.reader.now) stretch.block.first
-            self.now.databases.now self.now.together.answers ∥₁ }
+        requires { IsBlock stretch.block }
         ensures kind { IfOk result (λ s. IsTrue (is_ipv4 (ip_of s.network))
             ↔ IsOfIpv4 stretch.is_ipv4 stretch.block) }
         ensures bits { IfOk result (λ s. network_bits s.network
@@ -123,7 +91,7 @@ impl<'a, S: AsSlice<u8> + Drop> Many<'a, S> {
             ≡ offsets_said self.now.together.answers) }
         ensures memory { IfErr result (λ e. kind_of e ≡ OfMemory) }
     {
-        let records = self.records(stretch.block.first)?;
+        let records = self.records()?;
         Ok(Segment::new(stretch.block, stretch.is_ipv4, records))
     }
 
@@ -133,7 +101,13 @@ impl<'a, S: AsSlice<u8> + Drop> Many<'a, S> {
         ensures together { self.new.together ≡ self.old.together }
     {
         match self.together.take_unread(place) {
-            Some(leaf) => leaf.error,
+            Some(leaf) => {
+                self.unread = UnreadLeaf {
+                    place,
+                    behind: leaf.behind,
+                };
+                leaf.error
+            }
             None => MaxMindDbError::InvalidDatabase {
                 message: Message::Fixed(Text::InvalidLocation),
                 offset: None,
@@ -159,5 +133,9 @@ impl<'a, S: AsSlice<u8> + Drop> Walk for Many<'a, S> {
             Some(TogetherPart::Unread(place)) => Some(Err(self.error_at(place))),
             None => None,
         }
+    }
+
+    fn unread_leaf(&self) -> UnreadLeaf {
+        self.unread
     }
 }

@@ -12,7 +12,7 @@ ghost use Rattle.mmdb_query.specs.Parts.{is_wanted as spec_is_wanted, clipped};
 
 use crate::answer::Answer;
 use crate::segment::network_of_block;
-use crate::walk::Walk;
+use crate::walk::{UnreadLeaf, Walk};
 use mmdb_blocks::{Block, BlockKind, Kinds};
 use mmdb_reader::{IpNetwork, MaxMindDbError, PathElement};
 use mmdb_value::Value;
@@ -141,12 +141,13 @@ impl<A: Answer> Answer for Clipped<A> {
     }
 
     #[inline(always)]
-    fn read_record(
+    fn read_at(
         &self,
         alloc: Global,
         place: usize,
+        path: &[PathElement<'_>],
     ) -> Result<Option<Value<'_>>, MaxMindDbError> {
-        self.whole.read_record(alloc, place)
+        self.whole.read_at(alloc, place, path)
     }
 }
 
@@ -201,5 +202,9 @@ impl<W: Walk + Drop> Walk for Part<W> {
         }
         // not reached: nobody waits for as many networks that are left out one after another
         Some(Err(MaxMindDbError::Memory))
+    }
+
+    fn unread_leaf(&self) -> UnreadLeaf {
+        self.walk.unread_leaf()
     }
 }

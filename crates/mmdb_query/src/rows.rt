@@ -1,11 +1,12 @@
 //! The rows of chosen networks.
-ghost use Rattle.std.specs.Prelude.{◌≡◌, ℕ, List, IfOk, IfErr, IfSome, OnOk};
+ghost use Rattle.std.specs.Prelude.{◌≡◌, ◌++◌, ℕ, List, [], Some, true, IfOk, IfErr, IfSome, OnOk};
+ghost use Rattle.std.specs.Bool.{MatchBool};
 ghost use Rattle.std.specs.Io.KnownBytes.{Appends};
 ghost use Rattle.mmdb_format.specs.Error.{MemoryApart};
 ghost use Rattle.mmdb_query.specs.Ends.{WritesNone, EndsBy};
 ghost use Rattle.mmdb_query.specs.Kept.{RowsFit};
-ghost use Rattle.mmdb_query.specs.Rows.{IsRow, PutsTail, puts_row, nothing};
-ghost use Rattle.mmdb_query.specs.Taking.{asks, Takes};
+ghost use Rattle.mmdb_query.specs.Rows.{IsRow, IsBegun, puts_row, nothing};
+ghost use Rattle.mmdb_query.specs.Taking.{asks, IsDone, Takes};
 
 use crate::answer::Answer;
 use crate::choice::Conditions;
@@ -19,21 +20,26 @@ use mmdb_reader::MaxMindDbError;
 use std::alloc::{AllocError, Global};
 use std::io::Write;
 
-/// The most bytes that are kept, and of one row.
-const MOST_KEPT: usize = 8 << 20;
-
+/// The most bytes that are kept of one row. Of the row that was made last all is kept.
 const MOST_BYTES: usize = 4096;
 
-/// Room for a row.
-const LINE: usize = 1_024;
+/// The most bytes of what a row has after its network where it is put together with that: two puts of some bytes take longer
+/// than their copy and one put.
+const MOST_JOINED: usize = 1024;
 
-// Makes rows. Many networks share their records, so what rows have after their network is kept by the records' number.
+/// Room for a row that is put together.
+const LINE: usize = MOST_BYTES + 64;
+
+// Makes what rows have after their network. Many networks share their records, so it is kept by the records' number.
 #[derive(Drop)]
 pub(crate) struct RowMaker<'a, T: Template> {
     alloc: Global,
     template: &'a T,
     scratch: T::Scratch,
     kept: Cache<Vec<u8>>,
+    // What was made last, and the number of its records, if they have one.
+    last: Vec<u8>,
+    last_key: Option<usize>,
 }
 
 impl<'a, T: Template> RowMaker<'a, T> {
@@ -47,80 +53,79 @@ impl<'a, T: Template> RowMaker<'a, T> {
         self.kept.get(answer.key()?)
     }
 
-    // Keeps what the row of an answer has after its network, unless it is long.
-    fn keep<A: Answer>(&mut self, answer: &A, tail: Vec<u8>)
+    // Whether what was made last is of the same records.
+    #[inline(always)]
+    fn is_last<A: Answer>(&self, answer: &A) -> bool
+        requires { RowsFit T.is_tail T.fits (A.sections answer.now) self.now }
+        ensures { result ≡ true → T.is_tail self.now.template.now (A.sections answer.now)
+            (A.had answer.now).offsets self.now.last.items }
+    {
+        match (self.last_key, answer.key()) {
+            (Some(last), Some(key)) => last == key,
+            _ => false,
+        }
+    }
+
+    // Keeps a copy of what was made last, of an answer, unless it is long or there is no memory.
+    fn keep_last<A: Answer>(&mut self, answer: &A)
         requires tail { T.is_tail self.old.template.now (A.sections answer.now)
-            (A.had answer.now).offsets tail.items }
+            (A.had answer.now).offsets self.old.last.items }
         requires fits { RowsFit T.is_tail T.fits (A.sections answer.now) self.old }
         ensures fits { RowsFit T.is_tail T.fits (A.sections answer.now) self.new }
+        ensures last { self.new.last.items ≡ self.old.last.items }
         ensures same { self.new.template.now ≡ self.old.template.now }
     {
-        if tail.len() > MOST_BYTES {
+        if self.last.len() > MOST_BYTES {
             return;
         }
-        if let Some(key) = answer.key() {
+        let Some(key) = answer.key() else {
+            return;
+        };
+        if let Ok(tail) = Vec::from_slice(self.alloc, self.last.as_slice()) {
             let bytes = tail.len();
             self.kept.put(key, tail, bytes);
         }
     }
 
-    // Adds what a row has after its network, made anew.
-    #[inline(never)]
-    fn put_new_tail<A: Answer>(
-        &mut self,
-        answer: &A,
-        line: &mut Vec<u8>,
-    ) -> Result<(), MaxMindDbError>
+    // Makes what the row of an answer has after its network, in place of what was made last.
+    fn make_last<A: Answer>(&mut self, answer: &A) -> Result<(), MaxMindDbError>
         requires { RowsFit T.is_tail T.fits (A.sections answer.now) self.old }
-        ensures tail { OnOk result (PutsTail (T.is_tail self.old.template.now
-            (A.sections answer.now) (A.had answer.now).offsets) line.old.items line.new.items) }
+        ensures tail { OnOk result (T.is_tail self.old.template.now (A.sections answer.now)
+            (A.had answer.now).offsets self.new.last.items) }
         ensures unread { IfErr result (λ e. MemoryApart e
             (T.is_unread self.old.template.now (A.sections answer.now)
             (A.had answer.now).offsets)) }
         ensures fits { RowsFit T.is_tail T.fits (A.sections answer.now) self.new }
         ensures same { self.new.template.now ≡ self.old.template.now }
     {
-        let tail = self.template.tail(self.alloc, &mut self.scratch, answer)?;
-        line.extend_from_slice(tail.as_slice())?;
-        self.keep(answer, tail);
+        self.last_key = None;
+        self.last.clear();
+        self.template
+            .put_tail(self.alloc, &mut self.scratch, answer, &mut self.last)?;
+        self.last_key = answer.key();
+        self.keep_last(answer);
         Ok(())
     }
 
-    // Adds what a row has after its network.
+    // Begins the row of a network, in place of another one, and says whether it is whole: what it has after its network is
+    // kept.
     #[inline(always)]
-    fn put_tail<A: Answer>(&mut self, answer: &A, line: &mut Vec<u8>) -> Result<(), MaxMindDbError>
-        requires { RowsFit T.is_tail T.fits (A.sections answer.now) self.old }
-        ensures tail { OnOk result (PutsTail (T.is_tail self.old.template.now
-            (A.sections answer.now) (A.had answer.now).offsets) line.old.items line.new.items) }
-        ensures unread { IfErr result (λ e. MemoryApart e
-            (T.is_unread self.old.template.now (A.sections answer.now)
-            (A.had answer.now).offsets)) }
-        ensures fits { RowsFit T.is_tail T.fits (A.sections answer.now) self.new }
-        ensures same { self.new.template.now ≡ self.old.template.now }
-    {
-        if let Some(tail) = self.kept_tail(answer) {
-            return Ok(line.extend_from_slice(tail.as_slice())?);
-        }
-        self.put_new_tail(answer, line)
-    }
-
-    // Makes the row of a network.
-    #[inline(always)]
-    fn make<A: Answer>(&mut self, answer: &A, line: &mut Vec<u8>) -> Result<(), MaxMindDbError>
-        requires { RowsFit T.is_tail T.fits (A.sections answer.now) self.old }
-        ensures row { OnOk result (IsRow (T.front self.old.template.now)
-            (T.is_tail self.old.template.now (A.sections answer.now))
-            (A.had answer.now) line.new.items) }
-        ensures unread { IfErr result (λ e. MemoryApart e
-            (T.is_unread self.old.template.now (A.sections answer.now)
-            (A.had answer.now).offsets)) }
-        ensures fits { RowsFit T.is_tail T.fits (A.sections answer.now) self.new }
-        ensures same { self.new.template.now ≡ self.old.template.now }
+    fn begin<A: Answer>(&self, answer: &A, line: &mut Vec<u8>) -> Result<bool, AllocError>
+        requires { RowsFit T.is_tail T.fits (A.sections answer.now) self.now }
+        ensures { IfOk result (λ is_whole. MatchBool is_whole
+            (IsRow (T.front self.now.template.now)
+            (T.is_tail self.now.template.now (A.sections answer.now)) (A.had answer.now)
+            line.new.items)
+            (IsBegun (T.front self.now.template.now) (A.had answer.now) line.new.items)) }
     {
         line.clear();
         line.extend_from_slice(self.template.front())?;
         answer.network().push_text(line)?;
-        self.put_tail(answer, line)
+        let Some(tail) = self.kept_tail(answer) else {
+            return Ok(false);
+        };
+        line.extend_from_slice(tail.as_slice())?;
+        Ok(true)
     }
 }
 
@@ -131,37 +136,56 @@ pub struct Rows<'a, T: Template> {
     line: Vec<u8>,
 }
 
-// Writes a row.
+// Writes some bytes.
 #[inline(always)]
-fn write_line<O: Write>(line: &[u8], out: &mut O) -> Result<(), QueryError>
-    ensures written { OnOk result (Appends (O.contents out.old) (O.contents out.new) line.now) }
+fn write_bytes<O: Write>(bytes: &[u8], out: &mut O) -> Result<(), QueryError>
+    ensures written { OnOk result (Appends (O.contents out.old) (O.contents out.new) bytes.now) }
     ensures failed { IfErr result (WritesNone (O.contents out.old) (O.contents out.new)) }
 {
-    match out.write_all(line) {
+    match out.write_all(bytes) {
+        Ok(()) => Ok(()),
+        Err(error) => Err(QueryError::Write(error)),
+    }
+}
+
+// Writes what a row begins with, and then what it has after that.
+fn write_parts<O: Write>(front: &[u8], tail: &[u8], out: &mut O) -> Result<(), QueryError>
+    ensures written { OnOk result
+        (Appends (O.contents out.old) (O.contents out.new) (front.now ++ tail.now)) }
+    ensures failed { IfErr result (WritesNone (O.contents out.old) (O.contents out.new)) }
+{
+    match out.write_all(front) {
+        Ok(()) => {}
+        Err(error) => return Err(QueryError::Write(error)),
+    }
+    match out.write_all(tail) {
         Ok(()) => Ok(()),
         Err(error) => Err(QueryError::Write(error)),
     }
 }
 
 impl<'a, T: Template> Rows<'a, T> {
-    /// No rows yet. They are of the records that what they are made with is of.
+    /// No rows yet, of which at most so many bytes are kept, beside what they are made with. They are of the records that this is
+    /// of.
     pub fn new(
         alloc: Global,
         template: &'a T,
         scratch: T::Scratch,
+        most_kept: usize,
     ) -> Result<Rows<'a, T>, AllocError>
         ensures template { IfOk result (λ rows. rows.maker.template.now ≡ template.now) }
         ensures fits { IfOk result (λ rows. (s : List (List ℕ))
             → T.fits template.now s scratch → RowsFit T.is_tail T.fits s rows.maker) }
     {
         let line = Vec::with_capacity(alloc, LINE)?;
-        let kept = Cache::new(alloc, MOST_KEPT);
         Ok(Rows {
             maker: RowMaker {
                 alloc,
                 template,
                 scratch,
-                kept,
+                kept: Cache::new(alloc, most_kept),
+                last: Vec::new(alloc),
+                last_key: None,
             },
             line,
         })
@@ -172,6 +196,67 @@ impl<'a, T: Template> Rows<'a, T> {
         ensures { result.now ≡ self.now.maker.scratch }
     {
         &self.maker.scratch
+    }
+
+    // Writes the row of a network that is begun, with what was made last, which is of the same records.
+    fn put_last<A: Answer, O: Write>(
+        &mut self,
+        _answer: &A,
+        out: &mut O,
+    ) -> Result<Option<MaxMindDbError>, QueryError>
+        requires begun { IsBegun (T.front self.old.maker.template.now) (A.had _answer.now)
+            self.old.line.items }
+        requires tail { T.is_tail self.old.maker.template.now (A.sections _answer.now)
+            (A.had _answer.now).offsets self.old.maker.last.items }
+        ensures done { IfOk result (λ unread. IsDone
+            (puts_row T.front T.is_tail self.old.maker.template.now (A.sections _answer.now)
+            (A.had _answer.now))
+            (T.is_unread self.old.maker.template.now (A.sections _answer.now)
+            (A.had _answer.now).offsets)
+            unread nothing nothing (O.contents out.old) (O.contents out.new)) }
+        ensures failed { IfErr result (WritesNone (O.contents out.old) (O.contents out.new)) }
+        ensures maker { self.new.maker ≡ self.old.maker }
+    {
+        let tail = self.maker.last.as_slice();
+        if tail.len() > MOST_JOINED {
+            write_parts(self.line.as_slice(), tail, out)?;
+            return Ok(None);
+        }
+        let Ok(()) = self.line.extend_from_slice(tail) else {
+            return Ok(Some(MaxMindDbError::Memory));
+        };
+        write_bytes(self.line.as_slice(), out)?;
+        Ok(None)
+    }
+
+    // Writes the row of a network that is begun, with what it has after that. It is made anew where what was made last is of
+    // other records.
+    #[inline(never)]
+    fn put_made<A: Answer, O: Write>(
+        &mut self,
+        answer: &A,
+        out: &mut O,
+    ) -> Result<Option<MaxMindDbError>, QueryError>
+        requires begun { IsBegun (T.front self.old.maker.template.now) (A.had answer.now)
+            self.old.line.items }
+        requires fits { RowsFit T.is_tail T.fits (A.sections answer.now) self.old.maker }
+        ensures done { IfOk result (λ unread. IsDone
+            (puts_row T.front T.is_tail self.old.maker.template.now (A.sections answer.now)
+            (A.had answer.now))
+            (T.is_unread self.old.maker.template.now (A.sections answer.now)
+            (A.had answer.now).offsets)
+            unread nothing nothing (O.contents out.old) (O.contents out.new)) }
+        ensures failed { IfErr result (WritesNone (O.contents out.old) (O.contents out.new)) }
+        ensures fits { RowsFit T.is_tail T.fits (A.sections answer.now) self.new.maker }
+        ensures same { self.new.maker.template.now ≡ self.old.maker.template.now }
+    {
+        if self.maker.is_last(answer) {
+            return self.put_last(answer, out);
+        }
+        match self.maker.make_last(answer) {
+            Ok(()) => self.put_last(answer, out),
+            Err(error) => Ok(Some(error)),
+        }
     }
 }
 
@@ -196,19 +281,24 @@ impl<'a, T: Template> Sink for Rows<'a, T> {
         answer: &A,
         out: &mut O,
     ) -> Result<Option<MaxMindDbError>, QueryError> {
-        match self.maker.make(answer, &mut self.line) {
-            Ok(()) => {
-                write_line(self.line.as_slice(), out)?;
+        match self.maker.begin(answer, &mut self.line) {
+            Ok(true) => {
+                write_bytes(self.line.as_slice(), out)?;
                 Ok(None)
             }
-            Err(error) => Ok(Some(error)),
+            Ok(false) => self.put_made(answer, out),
+            Err(_) => Ok(Some(MaxMindDbError::Memory)),
         }
     }
 
     #[cold]
     #[inline(never)]
     fn drop_caches(&mut self) -> bool {
-        self.maker.kept.clear();
+        let maker = &mut self.maker;
+        maker.template.drop_kept(&mut maker.scratch);
+        maker.kept.clear();
+        maker.last_key = None;
+        maker.last = Vec::new(maker.alloc);
         true
     }
 }

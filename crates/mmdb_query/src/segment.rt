@@ -1,66 +1,33 @@
 //! What several databases have in a block in which each of them has one answer.
-ghost use Rattle.std.specs.Prelude.{◌≡◌, ◌↔◌, ◌≤◌, ◌-◌, ◌<◌, ◌^◌, ◌++◌, IsTrue, IfSome, IfNone, None, take, nat_eq, false};
+ghost use Rattle.std.specs.Prelude.{◌≡◌, ◌↔◌, ◌≤◌, ◌-◌, ◌<◌, ◌^◌, ◌++◌, IsTrue, IfSome, take, nat_eq, false};
 ghost use Rattle.std.specs.Net.Addr.{is_ipv4 as spec_is_ipv4};
 ghost use Rattle.mmdb_net.specs.Address.{IsMaskedIp};
 ghost use Rattle.mmdb_net.specs.Bits.{bits_of, zero_bits};
 ghost use Rattle.mmdb_net.specs.Network.{ip_of, prefix_of};
 ghost use Rattle.mmdb_blocks.specs.Blocks.{IsBlock};
 ghost use Rattle.mmdb_reader.specs.File.{data_section};
-ghost use Rattle.mmdb_reader.specs.Found.{section_asked, offset_found};
 ghost use Rattle.mmdb_reader.specs.Numbered.{HasZerosAfter};
-ghost use Rattle.mmdb_compare.specs.Found.{numbered_ip};
 ghost use Rattle.mmdb_query.specs.Had.{network_bits};
 ghost use Rattle.mmdb_query.specs.Reading.{reads_in, value_found, outline_found, IsReadAs};
-ghost use Rattle.mmdb_query.specs.Abreast.{IsThere, IsOfIpv4, IsLonger};
+ghost use Rattle.mmdb_query.specs.Abreast.{IsOfIpv4, IsLonger};
 
 use crate::answer::Answer;
 use crate::numbered::network_of;
 use crate::values::{outline_along, value_along};
 use mmdb_blocks::Block;
-use mmdb_reader::{IpNetwork, LookupResult, MaxMindDbError, NumberedNetwork, PathElement, Reader};
+use mmdb_reader::{IpNetwork, MaxMindDbError, NumberedNetwork, PathElement, Reader};
 use mmdb_value::Value;
 use std::alloc::Global;
 use std::convert::AsSlice;
-use std::net::{IpAddr, Ipv4Addr, Ipv6Addr};
 
-/// Where one of several databases has its record at an address, if it has one.
+/// Where one of several databases has its record, if it has one.
 #[derive(Drop)]
 pub(crate) struct DatabaseRecord<'a, S: AsSlice<u8> + Drop> {
     pub(crate) reader: &'a Reader<S>,
-    pub(crate) address: u128,
     pub(crate) offset: Option<usize>,
-    pub(crate) ghost there: { ∥ IsThere reader.now address offset ∥₁ },
-}
-
-// The address of a number, one of IPv4 below 2^32.
-fn address_of(number: u128) -> IpAddr
-    ensures { result ≡ numbered_ip number }
-{
-    if number < 1 << 32 {
-        IpAddr::V4(Ipv4Addr::from_bits(number as u32))
-    } else {
-        IpAddr::V6(Ipv6Addr::from_bits(number))
-    }
 }
 
 impl<'a, S: AsSlice<u8> + Drop> DatabaseRecord<'a, S> {
-    // What a lookup finds, where there is a record.
-    fn found(&self) -> Option<LookupResult<'a, S>>
-        ensures none { IfNone result (self.now.offset ≡ None) }
-        ensures section { IfSome result
-            (λ found. section_asked found ≡ data_section self.now.reader.now) }
-        ensures offset { IfSome result (λ found. offset_found found ≡ self.now.offset) }
-    {
-        if self.offset.is_none() {
-            return None;
-        }
-        let reader = self.reader;
-        let Ok(found) = reader.lookup(address_of(self.address)) else {
-            return None;
-        };
-        Some(found)
-    }
-
     // What is read along a path in the record.
     fn read_along(
         &self,
@@ -70,8 +37,8 @@ impl<'a, S: AsSlice<u8> + Drop> DatabaseRecord<'a, S> {
         ensures { IsReadAs (reads_in value_found (data_section self.now.reader.now)
             self.now.offset path.now) result }
     {
-        match self.found() {
-            Some(found) => value_along(alloc, &found, path),
+        match self.offset {
+            Some(offset) => value_along(alloc, &self.reader.stored_record(offset), path),
             None => Ok(None),
         }
     }
@@ -85,8 +52,8 @@ impl<'a, S: AsSlice<u8> + Drop> DatabaseRecord<'a, S> {
         ensures { IsReadAs (reads_in outline_found (data_section self.now.reader.now)
             self.now.offset path.now) result }
     {
-        match self.found() {
-            Some(found) => outline_along(alloc, &found, path),
+        match self.offset {
+            Some(offset) => outline_along(alloc, &self.reader.stored_record(offset), path),
             None => Ok(None),
         }
     }
@@ -255,14 +222,15 @@ impl<'a, S: AsSlice<u8> + Drop> Answer for Segment<'a, S> {
     }
 
     #[inline(always)]
-    fn read_record(
+    fn read_at(
         &self,
         alloc: Global,
         place: usize,
+        path: &[PathElement<'_>],
     ) -> Result<Option<Value<'_>>, MaxMindDbError> {
         if place >= self.records.len() {
             return Ok(None);
         }
-        self.records[place].read_along(alloc, &[])
+        self.records[place].read_along(alloc, path)
     }
 }

@@ -1,6 +1,7 @@
 //! What rows look like.
-ghost use Rattle.std.specs.Prelude.{◌≡◌, ℕ, List, Option, IfOk, IfErr};
+ghost use Rattle.std.specs.Prelude.{◌≡◌, ℕ, List, Option, IfErr, OnOk};
 ghost use Rattle.mmdb_format.specs.Error.{MemoryApart};
+ghost use Rattle.mmdb_query.specs.Rows.{PutsTail};
 
 use crate::answer::Answer;
 use mmdb_reader::MaxMindDbError;
@@ -27,17 +28,24 @@ pub trait Template {
     fn front(&self) -> &[u8]
         ensures { result.now ≡ front self.now };
 
-    /// What a row has after its network. Fails, unless out of memory, where that can't be read.
-    fn tail<A: Answer>(
+    /// Adds what a row has after its network. Fails, unless out of memory, where that can't be read; anything may have been added
+    /// then.
+    fn put_tail<A: Answer>(
         &self,
         alloc: Global,
         scratch: &mut Self::Scratch,
         answer: &A,
-    ) -> Result<Vec<u8>, MaxMindDbError>
+        out: &mut Vec<u8>,
+    ) -> Result<(), MaxMindDbError>
         requires { fits self.now (A.sections answer.now) scratch.old }
-        ensures tail { IfOk result (λ tail. is_tail self.now (A.sections answer.now)
-            (A.had answer.now).offsets tail.items) }
+        ensures tail { OnOk result (PutsTail (is_tail self.now (A.sections answer.now)
+            (A.had answer.now).offsets) out.old.items out.new.items) }
         ensures unread { IfErr result (λ e. MemoryApart e
             (is_unread self.now (A.sections answer.now) (A.had answer.now).offsets)) }
         ensures fits { fits self.now (A.sections answer.now) scratch.new };
+
+    /// Drops all that is kept to make rows faster.
+    fn drop_kept(&self, scratch: &mut Self::Scratch)
+        ensures { (s : List (List ℕ)) → fits self.now s scratch.old
+            → fits self.now s scratch.new };
 }

@@ -1,11 +1,12 @@
-//! What is read along a path in the record of one database.
+//! What is read along a path in a record.
 ghost use Rattle.std.specs.Prelude.{◌≡◌};
-ghost use Rattle.mmdb_reader.specs.Found.{section_asked, offset_found};
-ghost use Rattle.mmdb_reader.specs.Selecting.{meets_other_from};
-ghost use Rattle.mmdb_query.specs.Reading.{reads_in, value_found, outline_found, stands_for_none, IsReadAs};
+ghost use Rattle.mmdb_decode.specs.State.{begin};
+ghost use Rattle.mmdb_reader.specs.Found.{section_of_record, place_of_record};
+ghost use Rattle.mmdb_reader.specs.Selecting.{meets_other_type};
+ghost use Rattle.mmdb_query.specs.Reading.{value_found, outline_found, stands_for_none, IsReadAs};
 
 use crate::outline::Outline;
-use mmdb_reader::{LookupResult, MaxMindDbError, PathElement};
+use mmdb_reader::{MaxMindDbError, PathElement, Record};
 use mmdb_value::Value;
 use std::alloc::Global;
 use std::convert::AsSlice;
@@ -14,12 +15,12 @@ use std::convert::AsSlice;
 #[cold]
 #[inline(never)]
 fn leads_nowhere<S: AsSlice<u8> + Drop>(
-    found: &LookupResult<'_, S>,
+    found: &Record<'_, S>,
     path: &[PathElement<'_>],
     error: &MaxMindDbError,
 ) -> bool
-    ensures { result ≡ stands_for_none error.now
-        (meets_other_from path.now (section_asked found.now) (offset_found found.now)) }
+    ensures { let begun = begin (section_of_record found.now) (place_of_record found.now) in
+        result ≡ stands_for_none error.now (meets_other_type path.now begun) }
 {
     match error {
         MaxMindDbError::Memory => false,
@@ -27,16 +28,16 @@ fn leads_nowhere<S: AsSlice<u8> + Drop>(
     }
 }
 
-/// The value at the end of a path, or none where there is no record, or the path leads nowhere in it: also where a step of it
-/// meets a value of another type.
+/// The value at the end of a path, or none where the path leads nowhere in the record: also where a step of it meets a value of
+/// another type.
 #[inline(always)]
 pub(crate) fn value_along<'a, S: AsSlice<u8> + Drop>(
     alloc: Global,
-    found: &LookupResult<'a, S>,
+    found: &Record<'a, S>,
     path: &[PathElement<'_>],
 ) -> Result<Option<Value<'a>>, MaxMindDbError>
-    ensures { IsReadAs (reads_in value_found (section_asked found.now)
-        (offset_found found.now) path.now) result }
+    ensures { IsReadAs (value_found path.now (section_of_record found.now)
+        (place_of_record found.now)) result }
 {
     match found.decode_path(alloc, path) {
         Ok(value) => Ok(value),
@@ -53,11 +54,11 @@ pub(crate) fn value_along<'a, S: AsSlice<u8> + Drop>(
 /// The same, but in place of a map or an array an empty one: no more of it is read than its header.
 pub(crate) fn outline_along<'a, S: AsSlice<u8> + Drop>(
     alloc: Global,
-    found: &LookupResult<'a, S>,
+    found: &Record<'a, S>,
     path: &[PathElement<'_>],
 ) -> Result<Option<Value<'a>>, MaxMindDbError>
-    ensures { IsReadAs (reads_in outline_found (section_asked found.now)
-        (offset_found found.now) path.now) result }
+    ensures { IsReadAs (outline_found path.now (section_of_record found.now)
+        (place_of_record found.now)) result }
 {
     let read: Result<Option<Outline<'a>>, MaxMindDbError> = found.decode_path(alloc, path);
     match read {

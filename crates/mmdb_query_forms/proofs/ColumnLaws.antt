@@ -1,7 +1,6 @@
 -- Columns, one after another.
-use Rattle.std.proofs.Common.{◌≡◌, inl, inr, ℕ, List, [], ◌∷◌, ◌++◌, Option, Some, None, refl, sym, ap, ◌∙◌, append_assoc, append-nil}
-use Rattle.mmdb_format.specs.Unfolding.{Tree}
-use Rattle.mmdb_query_forms.specs.Columns.{Readings, read_by, ShowsValue, label_of, AreColumns, AnyUnread}
+use Rattle.std.proofs.Common.{◌≡◌, inl, inr, ℕ, List, [], ◌∷◌, ◌++◌, None, refl, sym, ap, ◌∙◌, append_assoc, append-nil}
+use Rattle.mmdb_query_forms.specs.Columns.{Readings, read_by, label_of, AreColumns, AnyUnread}
 use Rattle.mmdb_query_forms.specs.Puts.{PutsRead, PutsColumn, PutsColumns}
 use Rattle.mmdb_query_forms.specs.declared.column.Column.{Column}
 use Rattle.mmdb_query_forms.specs.declared.columns.RowForm.{RowForm}

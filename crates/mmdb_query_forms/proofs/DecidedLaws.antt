@@ -17,7 +17,7 @@ use Rattle.mmdb_json.specs.Shown.{Shows}
 use Rattle.mmdb_json.specs.Texts.{IsCompact}
 use Rattle.mmdb_reader.specs.File.{data_section}
 use Rattle.mmdb_reader.specs.declared.path.PathElement.{PathElement}
-use Rattle.mmdb_layout.specs.Conditions.{IsWrittenBy, SaysAmong, SaysPartOf, text_of, SaysBeyond, SaysFits, SaysRead, SaysFoundBy, SaysMetBy, SaysAllMetBy, HasUnreadBy, texts_of, wants}
+use Rattle.mmdb_layout.specs.Conditions.{IsWrittenBy, SaysAmong, SaysPartOf, text_of, SaysBeyond, SaysFits, SaysRead, SaysMetBy, SaysAllMetBy, HasUnreadBy, texts_of, wants}
 use Rattle.mmdb_layout.specs.Numbers.{IsBeyond}
 use Rattle.mmdb_layout.specs.declared.condition.Condition.{Condition}
 use Rattle.mmdb_layout.specs.declared.condition.Requirement.{Requirement}

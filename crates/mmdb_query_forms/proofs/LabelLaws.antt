@@ -1,6 +1,5 @@
 -- The names of members.
 use Rattle.std.proofs.Common.{◌≡◌, ℕ, List, ap, ◌∙◌, append-nil}
-use Rattle.json.specs.Json.{string}
 use Rattle.json.specs.Print.{print, print_from, quoted}
 use Rattle.json.specs.Tree.{json_tokens}
 use Rattle.mmdb_format.specs.Contents.{text}

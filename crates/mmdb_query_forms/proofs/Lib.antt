@@ -3,3 +3,6 @@ mod AlongLaws
 mod DecidedLaws
 mod LabelLaws
 mod ColumnLaws
+mod RecordLaws
+mod KeptLaws
+mod FittingLaws

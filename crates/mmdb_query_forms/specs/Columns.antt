@@ -6,7 +6,7 @@ use Rattle.mmdb_format.specs.Unfolding.{Tree, scalar}
 use Rattle.mmdb_reader.specs.declared.path.PathElement.{PathElement}
 use Rattle.mmdb_json.specs.Texts.{IsCompact}
 use Rattle.mmdb_filter.specs.Cells.{csv_cell}
-use Rattle.mmdb_query.specs.Reading.{values_of, record_of}
+use Rattle.mmdb_query.specs.Reading.{values_of, value_of}
 use Rattle.mmdb_query_forms.specs.Labels.{member_label}
 use Rattle.mmdb_query_forms.specs.declared.column.Column.{Column}
 use Rattle.mmdb_query_forms.specs.declared.column.ColumnSource.{ColumnSource}
@@ -22,7 +22,7 @@ pub record Readings : Type 0 where
 
 -- the same by the data sections of the databases, and where each has its record
 abbrev pub readings_of : List (List ℕ) → List (Option ℕ) → Readings
-readings_of sections offsets = record { values = values_of sections offsets; records = record_of sections offsets }
+readings_of sections offsets = record { values = values_of sections offsets; records = λ place. value_of sections offsets place [] }
 
 -- what a column shows, or that it shows nothing
 abbrev pub read_by : ColumnSource → Readings → Option (Option Tree)

@@ -55,6 +55,13 @@ impl<'a> Column<'a> {
         })
     }
 
+    /// What it shows.
+    pub fn source(&self) -> &ColumnSource<'a>
+        ensures { result.now ≡ self.now.source }
+    {
+        &self.source
+    }
+
     /// What comes before its value in an object.
     pub(crate) fn label(&self) -> &[u8]
         ensures { result.now ≡ member_label self.now.name.now }

@@ -1,19 +1,24 @@
 //! Rows of columns: cells of CSV, or objects of JSON.
-ghost use Rattle.std.specs.Prelude.{◌≡◌, Some, None, IfOk, IfErr, OnOk, length};
+ghost use Rattle.std.specs.Prelude.{◌≡◌, ◌<◌, [], Some, None, option_map, is_some, get_or, length, IfOk, IfErr, OnOk};
 ghost use Rattle.mmdb_format.specs.Contents.{text as text_content};
 ghost use Rattle.mmdb_format.specs.Error.{MemoryApart};
 ghost use Rattle.mmdb_format.specs.Unfolding.{scalar};
 ghost use Rattle.mmdb_value.specs.Values.{value_tree};
-ghost use Rattle.mmdb_query.specs.Reading.{IsReadAs};
+ghost use Rattle.mmdb_query.specs.Reading.{values_of, value_of};
 ghost use Rattle.mmdb_query_forms.specs.Columns.{readings_of, read_by, label_of, front_of as spec_front_of, behind_network as spec_behind_network, end_of as spec_end_of, AnyUnread};
+ghost use Rattle.mmdb_query_forms.specs.Fitting.{TextsFit, ScratchFits};
+ghost use Rattle.mmdb_query_forms.specs.Kept.{SourceFits, has_value};
 ghost use Rattle.mmdb_query_forms.specs.Puts.{PutsValue, PutsRead, PutsColumn, PutsColumns};
 ghost use Rattle.mmdb_query_forms.specs.declared.columns.RowForm.TheVariants.{Csv, Json};
 
 use crate::column::{Column, ColumnSource};
+use crate::kept::KeptColumn;
+use crate::scratch::ColumnScratch;
+use crate::whole::put_record;
 use mmdb_filter::put_csv_cell;
-use mmdb_json::compact;
+use mmdb_json::{RecordTexts, compact};
 use mmdb_query::{Answer, Template};
-use mmdb_reader::MaxMindDbError;
+use mmdb_reader::{MaxMindDbError, PathElement};
 use mmdb_value::Value;
 use std::alloc::{AllocError, Global};
 
@@ -53,21 +58,6 @@ fn put_cell(alloc: Global, value: &Value<'_>, out: &mut Vec<u8>) -> Result<(), A
     }
     let json = compact(alloc, value)?;
     put_csv_cell(b',', json.as_slice(), out)
-}
-
-// What a column shows of what databases have.
-fn read<'v, A: Answer>(
-    alloc: Global,
-    source: &ColumnSource<'_>,
-    answer: &'v A,
-) -> Result<Option<Value<'v>>, MaxMindDbError>
-    ensures { IsReadAs (read_by source.now
-        (readings_of (A.sections answer.now) (A.had answer.now).offsets)) result }
-{
-    match source {
-        ColumnSource::Path(path) => answer.read_along(alloc, path.as_slice()),
-        ColumnSource::Record(place) => answer.read_record(alloc, *place),
-    }
 }
 
 impl RowForm {
@@ -111,8 +101,8 @@ impl RowForm {
         }
     }
 
-    // Adds a value.
-    fn put_value(
+    /// Adds a value.
+    pub(crate) fn put_value(
         self,
         alloc: Global,
         value: &Value<'_>,
@@ -127,8 +117,8 @@ impl RowForm {
         }
     }
 
-    // Adds what shows that there is no value.
-    fn put_none(self, out: &mut Vec<u8>) -> Result<(), AllocError>
+    /// Adds what shows that there is no value.
+    pub(crate) fn put_none(self, out: &mut Vec<u8>) -> Result<(), AllocError>
         ensures { OnOk result (PutsValue self None out.old.items out.new.items) }
     {
         match self {
@@ -137,30 +127,117 @@ impl RowForm {
         }
     }
 
+    // Adds what was read, and says whether there is a value.
+    fn put_option(
+        self,
+        alloc: Global,
+        value: &Option<Value<'_>>,
+        out: &mut Vec<u8>,
+    ) -> Result<bool, AllocError>
+        ensures shown { OnOk result
+            (PutsValue self (option_map value_tree value.now) out.old.items out.new.items) }
+        ensures found { IfOk result (λ found. found ≡ is_some value.now) }
+    {
+        match value {
+            Some(value) => self.put_value(alloc, value, out)?,
+            None => self.put_none(out)?,
+        }
+        Ok(value.is_some())
+    }
+
+    /// Adds the value at the end of a path as it is read, that of the first database that has one there, and says whether there is
+    /// one.
+    pub(crate) fn put_along<A: Answer>(
+        self,
+        alloc: Global,
+        path: &[PathElement<'_>],
+        answer: &A,
+        out: &mut Vec<u8>,
+    ) -> Result<bool, MaxMindDbError>
+        ensures shown { OnOk result (PutsRead self (values_of (A.sections answer.now)
+            (A.had answer.now).offsets path.now) out.old.items out.new.items) }
+        ensures unread { IfErr result (λ e. MemoryApart e (values_of (A.sections answer.now)
+            (A.had answer.now).offsets path.now ≡ None)) }
+    {
+        match answer.read_along(alloc, path) {
+            Ok(value) => Ok(self.put_option(alloc, &value, out)?),
+            Err(error) => Err(error),
+        }
+    }
+
+    /// Adds the whole record of the database at a place as it is read, and says whether there is one.
+    #[tactic(auto, using(crate::proofs::RecordLaws::found_as_read))]
+    pub(crate) fn put_whole<A: Answer>(
+        self,
+        alloc: Global,
+        place: usize,
+        answer: &A,
+        out: &mut Vec<u8>,
+    ) -> Result<bool, MaxMindDbError>
+        ensures shown { OnOk result (PutsRead self (value_of (A.sections answer.now)
+            (A.had answer.now).offsets place []) out.old.items out.new.items) }
+        ensures unread { IfErr result (λ e. MemoryApart e (value_of (A.sections answer.now)
+            (A.had answer.now).offsets place [] ≡ None)) }
+        ensures found { IfOk result (λ found. found ≡ has_value (value_of
+            (A.sections answer.now) (A.had answer.now).offsets place [])) }
+    {
+        match answer.read_at(alloc, place, &[]) {
+            Ok(value) => Ok(self.put_option(alloc, &value, out)?),
+            Err(error) => Err(error),
+        }
+    }
+
+    /// Adds the whole record of the database at a place, by its texts or as it is read, and says whether there is one.
+    pub(crate) fn put_record<A: Answer>(
+        self,
+        alloc: Global,
+        place: usize,
+        texts: &mut Vec<RecordTexts<'_>>,
+        answer: &A,
+        out: &mut Vec<u8>,
+    ) -> Result<bool, MaxMindDbError>
+        requires { TextsFit texts.old.items (A.sections answer.now) }
+        ensures shown { OnOk result (PutsRead self (value_of (A.sections answer.now)
+            (A.had answer.now).offsets place []) out.old.items out.new.items) }
+        ensures unread { IfErr result (λ e. MemoryApart e (value_of (A.sections answer.now)
+            (A.had answer.now).offsets place [] ≡ None)) }
+        ensures found { IfOk result (λ found. found ≡ has_value (value_of
+            (A.sections answer.now) (A.had answer.now).offsets place [])) }
+        ensures texts { texts.new.items ≡ texts.old.items }
+    {
+        match self {
+            RowForm::Csv => self.put_whole(alloc, place, answer, out),
+            RowForm::Json => put_record(alloc, place, texts, answer, out),
+        }
+    }
+
     // Adds what a column shows of what databases have, and says whether there is a value.
     fn put_read<A: Answer>(
         self,
         alloc: Global,
         source: &ColumnSource<'_>,
+        texts: &mut Vec<RecordTexts<'_>>,
+        kept: &mut KeptColumn,
         answer: &A,
         out: &mut Vec<u8>,
     ) -> Result<bool, MaxMindDbError>
+        requires texts { TextsFit texts.old.items (A.sections answer.now) }
+        requires kept { SourceFits self source.now (A.sections answer.now) kept.old }
         ensures shown { OnOk result (PutsRead self (read_by source.now
             (readings_of (A.sections answer.now) (A.had answer.now).offsets))
             out.old.items out.new.items) }
         ensures unread { IfErr result (λ e. MemoryApart e (read_by source.now
             (readings_of (A.sections answer.now) (A.had answer.now).offsets) ≡ None)) }
+        ensures texts { texts.new.items ≡ texts.old.items }
+        ensures kept { SourceFits self source.now (A.sections answer.now) kept.new }
     {
-        match read(alloc, source, answer) {
-            Ok(Some(value)) => {
-                self.put_value(alloc, &value, out)?;
-                Ok(true)
+        match source {
+            ColumnSource::Path(path) => {
+                kept.put_along(self, alloc, path.as_slice(), answer, out)
             }
-            Ok(None) => {
-                self.put_none(out)?;
-                Ok(false)
+            ColumnSource::Record(place) => {
+                kept.put_record(self, alloc, *place, texts, answer, out)
             }
-            Err(error) => Err(error),
         }
     }
 
@@ -169,50 +246,23 @@ impl RowForm {
         self,
         alloc: Global,
         column: &Column<'_>,
+        texts: &mut Vec<RecordTexts<'_>>,
+        kept: &mut KeptColumn,
         answer: &A,
         out: &mut Vec<u8>,
     ) -> Result<bool, MaxMindDbError>
+        requires texts { TextsFit texts.old.items (A.sections answer.now) }
+        requires kept { SourceFits self column.now.source (A.sections answer.now) kept.old }
         ensures column { OnOk result (PutsColumn self
             (readings_of (A.sections answer.now) (A.had answer.now).offsets)
             column.now out.old.items out.new.items) }
         ensures unread { IfErr result (λ e. MemoryApart e (read_by column.now.source
             (readings_of (A.sections answer.now) (A.had answer.now).offsets) ≡ None)) }
+        ensures texts { texts.new.items ≡ texts.old.items }
+        ensures kept { SourceFits self column.now.source (A.sections answer.now) kept.new }
     {
         out.extend_from_slice(self.label(column))?;
-        self.put_read(alloc, &column.source, answer, out)
-    }
-}
-
-/// What rows of columns are made with.
-#[derive(Drop)]
-pub struct ColumnScratch {
-    // Which columns had a value in a row that was made.
-    met: Vec<bool>,
-}
-
-impl ColumnScratch {
-    /// Of as many columns, none of which had a value yet.
-    pub fn new(alloc: Global, count: usize) -> Result<ColumnScratch, AllocError> {
-        let mut met = Vec::with_capacity(alloc, count)?;
-        for _ in 0..count {
-            met.push(false)?;
-        }
-        Ok(ColumnScratch { met })
-    }
-
-    /// Whether the column at a place had a value in a row that was made.
-    pub fn has_met(&self, place: usize) -> bool {
-        match self.met.get(place) {
-            Some(met) => *met,
-            None => false,
-        }
-    }
-
-    // Notes whether the column at a place has a value in a row.
-    fn note(&mut self, place: usize, has_value: bool) {
-        if has_value && let Some(met) = self.met.get_mut(place) {
-            *met = true;
-        }
+        self.put_read(alloc, &column.source, texts, kept, answer, out)
     }
 }
 
@@ -223,36 +273,65 @@ pub struct Columns<'a> {
     pub columns: Vec<Column<'a>>,
 }
 
-impl Columns<'_> {
+impl<'a> Columns<'a> {
+    // Adds the column at a place, and notes whether it has a value.
+    fn put_noted<A: Answer>(
+        &self,
+        alloc: Global,
+        place: usize,
+        column: &Column<'a>,
+        scratch: &mut ColumnScratch<'a>,
+        answer: &A,
+        out: &mut Vec<u8>,
+    ) -> Result<(), MaxMindDbError>
+        requires within { place < length self.now.columns.items }
+        requires column { get_or self.now.columns.items place column.now ≡ column.now }
+        requires fits { ScratchFits self.now (A.sections answer.now) scratch.old }
+        ensures column { OnOk result (PutsColumn self.now.form
+            (readings_of (A.sections answer.now) (A.had answer.now).offsets)
+            column.now out.old.items out.new.items) }
+        ensures unread { IfErr result (λ e. MemoryApart e (read_by column.now.source
+            (readings_of (A.sections answer.now) (A.had answer.now).offsets) ≡ None)) }
+        ensures fits { ScratchFits self.now (A.sections answer.now) scratch.new }
+    {
+        let (texts, kept) = (&mut scratch.texts, &mut scratch.kept[place]);
+        let has_value = self
+            .form
+            .put_column(alloc, column, texts, kept, answer, out)?;
+        scratch.note(place, has_value);
+        Ok(())
+    }
+
     // Adds all columns, and notes which have a value.
     fn put_columns<A: Answer>(
         &self,
         alloc: Global,
-        scratch: &mut ColumnScratch,
+        scratch: &mut ColumnScratch<'a>,
         answer: &A,
         out: &mut Vec<u8>,
     ) -> Result<(), MaxMindDbError>
+        requires { ScratchFits self.now (A.sections answer.now) scratch.old }
         ensures columns { OnOk result (PutsColumns self.now.form
             (readings_of (A.sections answer.now) (A.had answer.now).offsets)
             self.now.columns.items out.old.items out.new.items) }
         ensures unread { IfErr result (λ e. MemoryApart e (AnyUnread
             (readings_of (A.sections answer.now) (A.had answer.now).offsets)
             self.now.columns.items)) }
+        ensures fits { ScratchFits self.now (A.sections answer.now) scratch.new }
     {
         for place in 0..self.columns.len() {
-            let has_value = self
-                .form
-                .put_column(alloc, &self.columns[place], answer, out)?;
-            scratch.note(place, has_value);
+            let column = &self.columns[place];
+            self.put_noted(alloc, place, column, scratch, answer, out)?;
         }
         Ok(())
     }
 }
 
-impl Template for Columns<'_> {
+impl<'a> Template for Columns<'a> {
     ghost use Rattle.mmdb_query_forms.specs.Columns.{readings_of, front_of, IsTail, AnyUnread};
+    ghost use Rattle.mmdb_query_forms.specs.Fitting.{ScratchFits};
 
-    type Scratch = ColumnScratch;
+    type Scratch = ColumnScratch<'a>;
 
     ghost front = { λ c. front_of c.form };
 
@@ -260,22 +339,25 @@ impl Template for Columns<'_> {
 
     ghost is_unread = { λ c s offsets. AnyUnread (readings_of s offsets) c.columns.items };
 
-    ghost fits = { λ _ _ _. Unit {0} };
+    ghost fits = { ScratchFits };
 
     fn front(&self) -> &[u8] {
         self.form.front()
     }
 
-    fn tail<A: Answer>(
+    fn put_tail<A: Answer>(
         &self,
         alloc: Global,
-        scratch: &mut ColumnScratch,
+        scratch: &mut ColumnScratch<'a>,
         answer: &A,
-    ) -> Result<Vec<u8>, MaxMindDbError> {
-        let mut tail = Vec::new(alloc);
-        tail.extend_from_slice(self.form.behind_network())?;
-        self.put_columns(alloc, scratch, answer, &mut tail)?;
-        tail.extend_from_slice(self.form.end())?;
-        Ok(tail)
+        out: &mut Vec<u8>,
+    ) -> Result<(), MaxMindDbError> {
+        out.extend_from_slice(self.form.behind_network())?;
+        self.put_columns(alloc, scratch, answer, out)?;
+        Ok(out.extend_from_slice(self.form.end())?)
+    }
+
+    fn drop_kept(&self, scratch: &mut ColumnScratch<'a>) {
+        scratch.clear();
     }
 }

@@ -5,8 +5,12 @@ mod all_of;
 mod along;
 mod column;
 mod columns;
+mod kept;
 pub mod laws;
+mod scratch;
+mod whole;
 
 pub use all_of::AllOf;
 pub use column::{Column, ColumnSource};
-pub use columns::{ColumnScratch, Columns, RowForm};
+pub use columns::{Columns, RowForm};
+pub use scratch::ColumnScratch;

@@ -18,7 +18,7 @@ use std::alloc::Global;
 use std::convert::AsSlice;
 
 // The value at an offset of a section.
-fn decode_at<'de, T: Decode<'de>>(
+pub(crate) fn decode_at<'de, T: Decode<'de>>(
     alloc: Global,
     section: &'de [u8],
     offset: usize,
@@ -35,7 +35,7 @@ fn decode_at<'de, T: Decode<'de>>(
 
 // The value at the end of a path that begins at an offset of a section.
 #[inline(always)]
-fn decode_along<'de, T: Decode<'de>>(
+pub(crate) fn decode_along<'de, T: Decode<'de>>(
     alloc: Global,
     section: &'de [u8],
     offset: usize,
@@ -84,12 +84,12 @@ impl<'a, S: AsSlice<u8> + Drop> LookupResult<'a, S> {
             × (offset_found self.now ≡ Some offset)
             × T.also (begin (section_asked self.now) offset) v after)) }
     {
-        let Some(offset) = self.offset else {
-            return Ok(None);
-        };
-        match decode_at(alloc, self.reader.data_section(), offset) {
-            Ok(value) => Ok(Some(value)),
-            Err(error) => Err(counted_from_start(error, self.reader.data_start())),
+        match self.to_record() {
+            Some(found) => match found.decode(alloc) {
+                Ok(value) => Ok(Some(value)),
+                Err(error) => Err(error),
+            },
+            None => Ok(None),
         }
     }
 
@@ -117,16 +117,9 @@ impl<'a, S: AsSlice<u8> + Drop> LookupResult<'a, S> {
             × (offset_found self.now ≡ Some offset)
             × Reaches path.now (section_asked self.now) offset there × T.also there v after)) }
     {
-        let Some(offset) = self.offset else {
-            return Ok(None);
-        };
-        if path.is_empty() {
-            return self.decode(alloc);
-        }
-        let section_start = self.reader.data_start();
-        match decode_along(alloc, self.reader.data_section(), offset, path) {
-            Ok(value) => Ok(value),
-            Err(error) => Err(counted_from_start(error, section_start)),
+        match self.to_record() {
+            Some(found) => found.decode_path(alloc, path),
+            None => Ok(None),
         }
     }
 
@@ -139,11 +132,8 @@ impl<'a, S: AsSlice<u8> + Drop> LookupResult<'a, S> {
         ensures { result ≡ meets_other_from path.now (section_asked self.now)
             (offset_found self.now) }
     {
-        match self.offset {
-            Some(offset) => {
-                let mut d = Decoder::new(self.reader.data_section(), offset);
-                meets_other_type(&mut d, path)
-            }
+        match self.to_record() {
+            Some(found) => found.meets_other_type(path),
             None => false,
         }
     }

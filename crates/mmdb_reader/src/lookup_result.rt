@@ -1,5 +1,5 @@
 //! What lookups find.
-ghost use Rattle.std.specs.Prelude.{◌≡◌, ◌≤◌, ◌<◌, ◌^◌, ◌*◌, ◌/◌, ℕ, false, ⊤, IsOkAnd, is_some, nat_eq};
+ghost use Rattle.std.specs.Prelude.{◌≡◌, ◌≤◌, ◌<◌, ◌^◌, ◌*◌, ◌/◌, ℕ, Some, None, false, ⊤, IfSome, IfNone, IsOkAnd, is_some, nat_eq};
 ghost use Rattle.std.specs.Net.Addr.{is_ipv4};
 ghost use Rattle.mmdb_net.specs.Address.{address_width};
 ghost use Rattle.mmdb_reader.specs.File.{Database};
@@ -7,6 +7,7 @@ ghost use Rattle.mmdb_reader.specs.Lookup.{block_at};
 ghost use Rattle.mmdb_reader.specs.Numbered.{numbered_block, HasZerosAfter};
 
 use crate::reader::Reader;
+use crate::record::Record;
 use mmdb_format::error::MaxMindDbError;
 use mmdb_net::{IpNetwork, mask_ip};
 use std::alloc::AllocError;
@@ -105,7 +106,7 @@ fn without_last(bits: u128, count: usize) -> u128
 }
 
 impl<'a, S: AsSlice<u8> + Drop> LookupResult<'a, S> {
-    ghost use Rattle.mmdb_reader.specs.Found.{database_asked, leaf_of, offset_found, shown_as_ipv4};
+    ghost use Rattle.mmdb_reader.specs.Found.{database_asked, section_asked, leaf_of, offset_found, shown_as_ipv4, section_of_record, place_of_record};
     ghost use Rattle.mmdb_reader.specs.Shown.{IsShownBy};
 
     /// Whether the database has data for the network.
@@ -120,6 +121,22 @@ impl<'a, S: AsSlice<u8> + Drop> LookupResult<'a, S> {
         ensures { result ≡ offset_found self.now }
     {
         self.offset
+    }
+
+    /// The record there, if there is one: it is read as from here.
+    #[inline(always)]
+    pub fn to_record(&self) -> Option<Record<'a, S>>
+        ensures none { IfNone result (offset_found self.now ≡ None) }
+        ensures section { IfSome result (λ r. section_of_record r ≡ section_asked self.now) }
+        ensures place { IfSome result (λ r. offset_found self.now ≡ Some (place_of_record r)) }
+    {
+        match self.offset {
+            Some(offset) => Some(Record {
+                reader: self.reader,
+                offset,
+            }),
+            None => None,
+        }
     }
 
     /// The network of all addresses that share the answer, with a masked address. Never fails.

@@ -8,6 +8,7 @@ use crate::file_layout::FileLayout;
 use crate::lookup_result::{LookupResult, NumberedAddress};
 use crate::marker::MARKER;
 use crate::metadata::Metadata;
+use crate::record::Record;
 use crate::steps::Steps;
 use mmdb_format::error::MaxMindDbError;
 use mmdb_format::message::{Message, Text};
@@ -61,7 +62,7 @@ impl<S: AsSlice<u8> + Drop> Model for Reader<S> {
 }
 
 impl<S: AsSlice<u8> + Drop> Reader<S> {
-    ghost use Rattle.mmdb_reader.specs.Found.{database_asked, leaf_of, offset_found, shown_as_ipv4};
+    ghost use Rattle.mmdb_reader.specs.Found.{database_asked, leaf_of, offset_found, shown_as_ipv4, section_of_record, place_of_record};
     ghost use Rattle.mmdb_reader.specs.Counting.{CountsAnswer, CountsNodes};
     ghost use Rattle.mmdb_reader.specs.Kept.{IsLayoutOf, database_of};
     ghost use Rattle.mmdb_reader.specs.Lookup.{CanAsk, Answers, IsInvalidAt, outcome_of, outcome_at, record_at};
@@ -127,6 +128,18 @@ impl<S: AsSlice<u8> + Drop> Reader<S> {
         ensures { result.now ≡ data_section self.now }
     {
         &self.source.as_slice()[self.data_start..self.marker]
+    }
+
+    /// The record at an offset of the data section, as answers have it. Nothing is read before its value is asked for.
+    #[inline(always)]
+    pub fn stored_record(&self, offset: usize) -> Record<'_, S>
+        ensures section { section_of_record result ≡ data_section self.now }
+        ensures place { place_of_record result ≡ offset }
+    {
+        Record {
+            reader: self,
+            offset,
+        }
     }
 
     // How many bytes the data section has.

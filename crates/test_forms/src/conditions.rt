@@ -2,7 +2,7 @@
 use mmdb_blocks::BlockKind;
 use mmdb_compare::AskedDatabase;
 use mmdb_layout::{Condition, Requirement, Texts};
-use mmdb_query::{Addresses, Faults, Many, Place, QueryError, Walk, blocks, gather};
+use mmdb_query::{Addresses, Answer, Fault, Faults, Many, One, QueryError, Walk, blocks, gather};
 use mmdb_query_forms::AllOf;
 use mmdb_reader::{IpNetwork, MaxMindDbError, PathElement, Reader, WithinOptions};
 use mmdb_vectors::builder::{Field, changed_file, nodes_24};
@@ -28,7 +28,11 @@ const BROKEN: Tree = [(1, 2), (43, 3), (33, 19)];
 struct Silent;
 
 impl Faults for Silent {
-    fn report(&mut self, _place: Place, _error: &MaxMindDbError) -> Result<(), AllocError> {
+    fn report<A: Answer>(
+        &mut self,
+        _fault: &Fault<'_, A>,
+        _error: &MaxMindDbError,
+    ) -> Result<(), AllocError> {
         Ok(())
     }
 
@@ -125,7 +129,7 @@ fn holds(alloc: Global, row: &Row) -> Result<bool, QueryError> {
     }
     if let [reader] = readers.as_slice() {
         let walk = reader.networks(alloc, WithinOptions::default());
-        let mut walk = walk.map_err(|_| QueryError::Memory)?;
+        let mut walk = One::new(walk.map_err(|_| QueryError::Memory)?);
         if !come(alloc, &mut walk, row)? {
             return Ok(false);
         }

@@ -54,8 +54,13 @@ fn expect_answer<A: Answer>(failures: &mut Failures, alloc: Global, answer: &A, 
     failures.expect_text(row, read(alloc, answer, &path[..1], false), row.value);
     failures.expect_text(row, read(alloc, answer, &path[..1], true), row.outline);
     failures.expect_text(row, read(alloc, answer, &path, false), row.below);
-    failures.expect_text(row, shown(alloc, answer.read_record(alloc, 0)), row.record);
-    failures.expect_text(row, shown(alloc, answer.read_record(alloc, 1)), "None");
+    failures.expect_text(
+        row,
+        shown(alloc, answer.read_at(alloc, 0, &path)),
+        row.below,
+    );
+    failures.expect_text(row, shown(alloc, answer.read_at(alloc, 0, &[])), row.record);
+    failures.expect_text(row, shown(alloc, answer.read_at(alloc, 1, &[])), "None");
 }
 
 #[test]

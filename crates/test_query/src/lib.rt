@@ -10,4 +10,6 @@ mod parts;
 #[cfg(test)]
 mod queries;
 #[cfg(test)]
+mod records;
+#[cfg(test)]
 mod several;

@@ -1,9 +1,9 @@
 //! Rows of the networks of some kinds in a range, in databases whose networks are known by their nodes.
 use super::databases::{FAULTY, FIRST, HALF, MIXED, Tree, WIDE, ipv6_reader_of, reader_of};
-use super::queries::{Came, Cells, Is, Reported, is_came};
+use super::queries::{Came, Cells, Is, MOST_KEPT, Reported, is_came};
 use mmdb_blocks::Kinds;
 use mmdb_compare::AskedDatabase;
-use mmdb_query::{Many, Part, QueryError, Rows, Walk, export_rows};
+use mmdb_query::{Many, One, Part, QueryError, Rows, Walk, export_rows};
 use mmdb_reader::{IpNetwork, MaxMindDbError, Reader, WithinOptions};
 use mmdb_vectors::failures::Failures;
 use std::alloc::Global;
@@ -129,7 +129,7 @@ fn rows_of_part<W: Walk + Drop>(alloc: Global, part: Part<W>) -> Result<Came, Qu
     };
     let mut text = Vec::new(alloc);
     let template = Cells { front: "" };
-    let mut rows = Rows::new(alloc, &template, ())?;
+    let mut rows = Rows::new(alloc, &template, (), MOST_KEPT)?;
     let count = export_rows(
         alloc,
         &mut part,
@@ -154,7 +154,7 @@ fn rows_of(alloc: Global, row: &Row) -> Result<Came, QueryError> {
         Some(range) => reader.within(alloc, range, options),
         None => reader.networks(alloc, options),
     };
-    let walk = walk.map_err(of_database)?;
+    let walk = One::new(walk.map_err(of_database)?);
     let kinds = Kinds::asked(row.ipv4, row.ipv6);
     rows_of_part(alloc, Part { walk, kinds, range })
 }

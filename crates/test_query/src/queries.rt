@@ -4,8 +4,8 @@ ghost use Rattle.std.specs.Prelude.{⊤, ℕ, List};
 use super::databases::{BROKEN, FAULTY, FAULTY_BEHIND, FIRST, HALF, Tree, reader_of};
 use mmdb_blocks::{Block, BlockKind};
 use mmdb_query::{
-    Addresses, Answer, Conditions, Faults, Place, QueryError, Rows, Template, blocks, export_rows,
-    gather_all, list_all,
+    Addresses, Answer, Conditions, Fault, Faults, One, QueryError, Rows, Template, UnreadLeaf,
+    blocks, export_rows, gather_all, list_all,
 };
 use mmdb_reader::{IpNetwork, MaxMindDbError, PathElement, WithinOptions};
 use mmdb_value::Value;
@@ -69,19 +69,25 @@ impl Template for Cells {
         self.front.as_bytes()
     }
 
-    fn tail<A: Answer>(
+    fn put_tail<A: Answer>(
         &self,
         alloc: Global,
         _scratch: &mut (),
         answer: &A,
-    ) -> Result<Vec<u8>, MaxMindDbError> {
+        out: &mut Vec<u8>,
+    ) -> Result<(), MaxMindDbError> {
         let mut tail = Vec::new(alloc);
         tail.push(b' ')?;
         let value = answer.read_along(alloc, FIELD)?;
         push_cell(value.as_ref(), &mut tail)?;
         tail.push(b'\n')?;
-        Ok(tail)
+        match out.extend_from_slice(tail.as_slice()) {
+            Ok(()) => Ok(()),
+            Err(_) => Err(MaxMindDbError::Memory),
+        }
     }
+
+    fn drop_kept(&self, _scratch: &mut ()) {}
 }
 
 /// Networks that can't be read, one behind the other.
@@ -90,15 +96,26 @@ pub struct Reported {
     pub text: Vec<u8>,
 }
 
+// A leaf that can't be read, by the network before it.
+fn push_leaf(leaf: UnreadLeaf, text: &mut Vec<u8>) -> Result<(), AllocError> {
+    match leaf.behind {
+        Some(network) => {
+            text.push(b'>')?;
+            network.push_text(text)
+        }
+        None => Ok(text.push(b'-')?),
+    }
+}
+
 impl Faults for Reported {
-    fn report(&mut self, place: Place, _error: &MaxMindDbError) -> Result<(), AllocError> {
-        match place {
-            Place::At(network) => network.push_text(&mut self.text)?,
-            Place::Behind(network) => {
-                self.text.push(b'>')?;
-                network.push_text(&mut self.text)?;
-            }
-            Place::First => self.text.push(b'-')?,
+    fn report<A: Answer>(
+        &mut self,
+        fault: &Fault<'_, A>,
+        _error: &MaxMindDbError,
+    ) -> Result<(), AllocError> {
+        match fault {
+            Fault::Network(answer) => answer.network().push_text(&mut self.text)?,
+            Fault::Leaf(leaf) => push_leaf(*leaf, &mut self.text)?,
         }
         Ok(self.text.push(b'!')?)
     }
@@ -135,6 +152,9 @@ const ROWS: &[Row] = &[
     Row { tree: HALF, text: None, front: "", rows: "0.0.0.0/1 B\n", unread: "", count: 0, unmet: "", blocks: "0.0.0.0/1 " },
 ];
 
+/// How many bytes are kept of rows.
+pub const MOST_KEPT: usize = 1 << 16;
+
 /// What came of a query: what was written or listed, what was reported, and how many networks can't be read.
 #[derive(Drop)]
 pub struct Came {
@@ -163,16 +183,17 @@ fn of_database(_error: MaxMindDbError) -> QueryError {
 // The rows of a row of the table.
 fn rows_of(alloc: Global, row: &Row) -> Result<Came, QueryError> {
     let reader = reader_of(alloc, row.tree).map_err(of_database)?;
-    let mut walk = reader
+    let walk = reader
         .networks(alloc, WithinOptions::default())
         .map_err(of_database)?;
+    let mut walk = One::new(walk);
     let mut faults = Reported {
         text: Vec::new(alloc),
     };
     let mut text = Vec::new(alloc);
     let conditions = Is { text: row.text };
     let template = Cells { front: row.front };
-    let mut rows = Rows::new(alloc, &template, ())?;
+    let mut rows = Rows::new(alloc, &template, (), MOST_KEPT)?;
     let count = export_rows(
         alloc,
         &mut walk,

@@ -1,6 +1,6 @@
 //! Rows and sets of addresses of several databases side by side, whose networks are known by their nodes.
 use super::databases::{BROKEN, FALLS, FAULTY, FIRST, HALF, RISES, Tree, reader_of};
-use super::queries::{Came, Cells, Is, Reported, is_came, push_networks};
+use super::queries::{Came, Cells, Is, MOST_KEPT, Reported, is_came, push_networks};
 use mmdb_compare::AskedDatabase;
 use mmdb_query::{Addresses, Many, QueryError, Rows, blocks, export_rows, gather};
 use mmdb_reader::{IpNetwork, MaxMindDbError, Reader};
@@ -64,7 +64,7 @@ fn of_database(_error: MaxMindDbError) -> QueryError {
 }
 
 // The readers of databases.
-fn readers_of(alloc: Global, trees: &[Tree]) -> Result<Vec<Reader<Vec<u8>>>, QueryError> {
+pub fn readers_of(alloc: Global, trees: &[Tree]) -> Result<Vec<Reader<Vec<u8>>>, QueryError> {
     let mut readers = Vec::new(alloc);
     for tree in trees {
         let reader = reader_of(alloc, *tree).map_err(of_database)?;
@@ -74,7 +74,7 @@ fn readers_of(alloc: Global, trees: &[Tree]) -> Result<Vec<Reader<Vec<u8>>>, Que
 }
 
 // The databases, each asked for all addresses of IPv4.
-fn asked_of<'a>(
+pub fn asked_of<'a>(
     alloc: Global,
     readers: &'a [Reader<Vec<u8>>],
 ) -> Result<Vec<AskedDatabase<'a, Vec<u8>>>, QueryError> {
@@ -100,7 +100,7 @@ fn rows_of(alloc: Global, trees: &[Tree], text: Option<&'static str>) -> Result<
     };
     let mut written = Vec::new(alloc);
     let template = Cells { front: "" };
-    let mut rows = Rows::new(alloc, &template, ())?;
+    let mut rows = Rows::new(alloc, &template, (), MOST_KEPT)?;
     let count = export_rows(
         alloc,
         &mut walk,

@@ -1,6 +1,6 @@
-use Rattle.std.proofs.Common.{[], ◌∷◌, ◌∙◌, ap, map}
+use Rattle.std.proofs.Common.{◌≡◌, [], ◌∷◌, ◌∙◌, ap, map, sym, subst}
 use Rattle.mmdb_reader.specs.File.{Database, data_section}
-use Rattle.mmdb_reader.specs.Enumeration.{database_walked}
+use Rattle.mmdb_reader.specs.Enumeration.{database_walked, ListsRange}
 use Rattle.mmdb_query.specs.Walks.{item_listed, comes_alone}
 use Rattle.mmdb_query.specs.Taking.{asks}
 use Rattle.mmdb_query.specs.Rows.{nothing}
@@ -10,20 +10,22 @@ use Rattle.mmdb_query.proofs.addresses.gather_all.Goals as goal
 
 pub returns-clause-only : goal.returns-clause-only
 returns-clause-only g c =
-    let w = c.in-Ok.walk in
-    let l = c.in-Ok.ensures.listing in
+    let w = c.new.result.within in
+    let l = subst (λ v. ListsRange v c.default.result []) (sym c.new.ensures) c.in-Ok.ensures.listing in
+    let database = subst (λ v. database_walked v ≡ c.args.reader.now) (sym c.new.ensures) c.in-Ok.ensures.database in
     let walked = database_walked w in
     has_only
     (λ (db : Database). asks g.C.Conditions.says g.C.Conditions.is_unread puts_addresses needs_nothing c.args.conditions.now nothing (data_section db ∷ []))
-    (comes_alone w) c.default.result l.list walked c.args.reader.now c.gather.result c.in-Ok.ensures.database c.default.ensures l.is_listing
+    (comes_alone w) c.default.result l.list walked c.args.reader.now c.gather.result database c.default.ensures l.is_listing
     (λ items come. come ∙ ap (map (item_listed walked)) l.comes) c.gather.ensures
 
 pub returns-clause-all : goal.returns-clause-all
 returns-clause-all g c =
-    let w = c.in-Ok.walk in
-    let l = c.in-Ok.ensures.listing in
+    let w = c.new.result.within in
+    let l = subst (λ v. ListsRange v c.default.result []) (sym c.new.ensures) c.in-Ok.ensures.listing in
+    let database = subst (λ v. database_walked v ≡ c.args.reader.now) (sym c.new.ensures) c.in-Ok.ensures.database in
     let walked = database_walked w in
     has_all
     (λ (db : Database). asks g.C.Conditions.says g.C.Conditions.is_unread puts_addresses needs_nothing c.args.conditions.now nothing (data_section db ∷ []))
-    (comes_alone w) c.default.result l.list walked c.args.reader.now c.gather.result c.in-Ok.ensures.database c.default.ensures l.is_listing
+    (comes_alone w) c.default.result l.list walked c.args.reader.now c.gather.result database c.default.ensures l.is_listing
     (λ items come. come ∙ ap (map (item_listed walked)) l.comes) (λ offsets unput. unput) c.gather.ensures
