@@ -9,8 +9,8 @@ use Rattle.mmdb_format.specs.declared.error.MaxMindDbError.TheVariants.{Memory, 
 use Rattle.mmdb_query.specs.Had.{Had}
 use Rattle.mmdb_query.specs.Walks.{Item, Goes, IsStep}
 use Rattle.mmdb_query.specs.Walks.Item.{Found, Unread}
-use Rattle.mmdb_query.specs.Taking.{Asked, CantBePut, IsPicked, ArePicked, Runs, Takes, IsDone}
-use Rattle.mmdb_query.specs.Steps.{is_memory, TakesChosen, TakesItem, TakesStep, FitsOf, UnderWay}
+use Rattle.mmdb_query.specs.Taking.{Asked, CantBePut, IsPicked, ArePicked, Runs, Takes, IsDone, IsDoneOrNot}
+use Rattle.mmdb_query.specs.Steps.{is_memory, TakesChosen, TakesItem, TakesKnown, TakesStep, FitsOf, UnderWay}
 use Rattle.mmdb_query.specs.Ends.{WritesNone, Begins, TooManyCome, EndsBy}
 use Rattle.mmdb_query.specs.declared.error.QueryError.{QueryError}
 use Rattle.mmdb_query.specs.declared.error.QueryError.TheVariants as ends
@@ -203,3 +203,30 @@ pub chosen_taken : {E X : Type 0} (a : Asked X) (had : Had) (r : Result ℕ E) (
     → IfOk r (λ fault. TakesItem a (Found had) fault old new before after)
 chosen_taken a had (Ok fault) old new before after says taken = chosen_one a had fault old new before after says taken
 chosen_taken a had (Err x) old new before after says taken = tt
+
+-- a network that is known to be chosen was taken at once, or nothing was taken
+pub known_taken : {E X : Type 0} (a : Asked X) (had : Had) (r : Result Bool E) (old new : X) (before after : Option (List ℕ))
+    → a.says had.offsets true → IfOk r (λ done. IsDoneOrNot (a.puts had) done old new before after)
+    → IfOk r (λ done. TakesKnown a (Found had) done old new before after)
+known_taken a had (Ok true) old new before after says (text, put, written) = chosen_one a had 0 old new before after says (inl (text, put, written, refl))
+known_taken a had (Ok false) old new before after says taken = taken
+known_taken a had (Err x) old new before after says taken = tt
+
+-- an item was taken, and nothing was taken nor written before
+pub taken_after_none : {E X : Type 0} (a : Asked X) (item : Item) (r : Result ℕ E) (old one new : X) (before at after : Option (List ℕ))
+    → one ≡ old → Appends before at [] → IfOk r (λ fault. TakesItem a item fault one new at after) → IfOk r (λ fault. TakesItem a item fault old new before after)
+taken_after_none a item (Ok fault) old one new before at after same none taken = record {
+  put = taken.put;
+  text = taken.text;
+  picked = taken.picked;
+  ran = subst (λ x. Runs a.puts taken.put x taken.text new) same taken.ran;
+  written = Appends-trans before at after [] taken.text none taken.written;
+}
+taken_after_none a item (Err x) old one new before at after same none taken = tt
+
+-- a network was put, or can't be, and nothing was written before
+pub done_after_none : {E X : Type 0} (puts : X → List ℕ → X → Type 0) (unput : Type 0) (r : Result (Option MaxMindDbError) E) (old new : X) (before at after : Option (List ℕ))
+    → Appends before at [] → IfOk r (λ u. IsDone puts unput u old new at after) → IfOk r (λ u. IsDone puts unput u old new before after)
+done_after_none puts unput (Ok None) old new before at after none (text, put, written) = (text, put, Appends-trans before at after [] text none written)
+done_after_none puts unput (Ok (Some e)) old new before at after none (cant, kept, more) = (cant, kept, nothing_more before at after none more)
+done_after_none puts unput (Err x) old new before at after none done = tt

@@ -32,6 +32,11 @@ pub record TakesItem {X : Type 0} (a : Asked X) (item : Item) (fault : ℕ) (old
   pub ran : Runs a.puts put old text new
   pub written : Appends before after text
 
+-- that was done of an item that can be read, or nothing was taken nor written
+abbrev pub TakesKnown : {X : Type 0} → Asked X → Item → Bool → X → X → Option (List ℕ) → Option (List ℕ) → Type 0
+TakesKnown a item true old new before after = TakesItem a item 0 old new before after
+TakesKnown a item false old new before after = (new ≡ old) × Appends before after []
+
 -- the same of what a walk hands out: by its data sections, where it is an answer; and else memory is not out
 abbrev pub TakesStep : {A X : Type 0} → (List (List ℕ) → Asked X) → (A → List (List ℕ)) → (A → Had) → Result A MaxMindDbError → ℕ → X → X
     → Option (List ℕ) → Option (List ℕ) → Type 0

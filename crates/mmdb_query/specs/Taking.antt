@@ -26,6 +26,11 @@ abbrev pub IsDone : {X : Type 0} → (X → List ℕ → X → Type 0) → Type 
 IsDone puts unput None old new before after = (text : List ℕ) × puts old text new × Appends before after text
 IsDone puts unput (Some e) old new before after = MemoryApart e unput × (new ≡ old) × Appends before after []
 
+-- One network was put, and known output grew by what is written of it; or nothing was taken nor written.
+abbrev pub IsDoneOrNot : {X : Type 0} → (X → List ℕ → X → Type 0) → Bool → X → X → Option (List ℕ) → Option (List ℕ) → Type 0
+IsDoneOrNot puts true old new before after = (text : List ℕ) × puts old text new × Appends before after text
+IsDoneOrNot puts false old new before after = (new ≡ old) × Appends before after []
+
 -- it can't be read whether a network is chosen, or it is chosen and what it needs can't be read
 abbrev pub CantBePut : {X : Type 0} → Asked X → Had → Type 0
 CantBePut a had = a.unsaid had.offsets ⊎ (a.says had.offsets true × a.unput had.offsets)

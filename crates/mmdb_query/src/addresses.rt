@@ -94,6 +94,17 @@ impl Sink for Addresses {
     ghost fits = { λ _ _. Unit {0} };
 
     #[inline(always)]
+    fn put_kept<A: Answer, O: Write>(
+        &mut self,
+        answer: &A,
+        _out: &mut O,
+    ) -> Result<bool, QueryError> {
+        match self.add(answer.network()) {
+            Ok(()) => Ok(true),
+            Err(_) => Err(QueryError::Memory),
+        }
+    }
+
     fn put<A: Answer, O: Write>(
         &mut self,
         answer: &A,

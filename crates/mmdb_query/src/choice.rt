@@ -109,9 +109,9 @@ impl<'a, C: Conditions> Choice<'a, C> {
         })
     }
 
-    // What was answered for the same records, where that is kept.
+    /// What was answered for the same records, where that is kept.
     #[inline(always)]
-    fn kept<A: Answer>(&self, answer: &A) -> Option<bool>
+    pub(crate) fn kept<A: Answer>(&self, answer: &A) -> Option<bool>
         requires { ChoiceFits C.says (A.sections answer.now) self.now }
         ensures { IfSome result
             (C.says self.now.conditions.now (A.sections answer.now) (A.had answer.now).offsets) }

@@ -6,7 +6,7 @@ ghost use Rattle.mmdb_query.specs.Ends.{IsOfOutput, WritesNone, EndsBy};
 ghost use Rattle.mmdb_query.specs.Kept.{ChoiceFits};
 ghost use Rattle.mmdb_query.specs.Walks.Item.{Found};
 ghost use Rattle.mmdb_query.specs.Taking.{asks, Takes, IsDone};
-ghost use Rattle.mmdb_query.specs.Steps.{TakesItem, TakesStep, TakesChosen, FitsOf, FitsStill, is_memory as spec_is_memory};
+ghost use Rattle.mmdb_query.specs.Steps.{TakesItem, TakesKnown, TakesStep, TakesChosen, FitsOf, FitsStill, is_memory as spec_is_memory};
 
 use crate::answer::Answer;
 use crate::choice::{Choice, Conditions};
@@ -125,9 +125,35 @@ fn put_chosen<A: Answer, S: Sink, O: Write, F: Faults>(
     }
 }
 
-// Gives a network to a sink, if it is chosen, or reports why it can't be, and says how many can't.
+// Gives a network to a sink at once, where it is known to be chosen and all that this needs is at hand; or leaves it out, where
+// it is known not to be. Whether that was done. Most go this way, which makes no error but the output's.
 #[inline(always)]
-fn put_answer<A: Answer, S: Sink, C: Conditions, O: Write, F: Faults>(
+fn put_known<A: Answer, S: Sink, C: Conditions, O: Write>(
+    choice: &Choice<'_, C>,
+    sink: &mut S,
+    answer: &A,
+    out: &mut O,
+) -> Result<bool, QueryError>
+    requires choice { ChoiceFits C.says (A.sections answer.now) choice.now }
+    requires sink { S.fits (A.sections answer.now) sink.old }
+    ensures put { IfOk result (λ is_done. TakesKnown
+        (asks C.says C.is_unread S.puts S.is_unread choice.now.conditions.now (S.form sink.old)
+        (A.sections answer.now)) (Found (A.had answer.now)) is_done
+        (S.took sink.old) (S.took sink.new) (O.contents out.old) (O.contents out.new)) }
+    ensures failed { IfErr result (WritesNone (O.contents out.old) (O.contents out.new)) }
+    ensures sink { S.fits (A.sections answer.now) sink.new }
+    ensures form { S.form sink.new ≡ S.form sink.old }
+{
+    match choice.kept(answer) {
+        Some(true) => sink.put_kept(answer, out),
+        Some(false) => Ok(true),
+        None => Ok(false),
+    }
+}
+
+// Gives a network to a sink, if it is chosen, or reports why it can't be, and says how many can't.
+#[inline(never)]
+fn put_anew<A: Answer, S: Sink, C: Conditions, O: Write, F: Faults>(
     choice: &mut Choice<'_, C>,
     sink: &mut S,
     answer: &A,
@@ -153,6 +179,35 @@ fn put_answer<A: Answer, S: Sink, C: Conditions, O: Write, F: Faults>(
         Ok(false) => Ok(0),
         Err(error) => report_of(sink, &Fault::Network(answer), &error, out, faults),
     }
+}
+
+// The same; at once, where that can be.
+#[inline(always)]
+fn put_answer<A: Answer, S: Sink, C: Conditions, O: Write, F: Faults>(
+    choice: &mut Choice<'_, C>,
+    sink: &mut S,
+    answer: &A,
+    out: &mut O,
+    faults: &mut F,
+) -> Result<u64, QueryError>
+    requires choice { ChoiceFits C.says (A.sections answer.now) choice.old }
+    requires sink { S.fits (A.sections answer.now) sink.old }
+    ensures put { IfOk result (λ fault. TakesItem
+        (asks C.says C.is_unread S.puts S.is_unread choice.old.conditions.now (S.form sink.old)
+        (A.sections answer.now)) (Found (A.had answer.now)) fault
+        (S.took sink.old) (S.took sink.new)
+        (O.contents out.old) (O.contents out.new)) }
+    ensures failed { IfErr result (WritesNone (O.contents out.old) (O.contents out.new)) }
+    ensures few { IfOk result (λ fault. fault ≤ 1) }
+    ensures choice { ChoiceFits C.says (A.sections answer.now) choice.new }
+    ensures sink { S.fits (A.sections answer.now) sink.new }
+    ensures same { choice.new.conditions.now ≡ choice.old.conditions.now }
+    ensures form { S.form sink.new ≡ S.form sink.old }
+{
+    if put_known(choice, sink, answer, out)? {
+        return Ok(0);
+    }
+    put_anew(choice, sink, answer, out, faults)
 }
 
 // The same of the last item of a walk.

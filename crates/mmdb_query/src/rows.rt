@@ -1,6 +1,5 @@
 //! The rows of chosen networks.
 ghost use Rattle.std.specs.Prelude.{◌≡◌, ◌++◌, ℕ, List, [], Some, true, IfOk, IfErr, IfSome, OnOk};
-ghost use Rattle.std.specs.Bool.{MatchBool};
 ghost use Rattle.std.specs.Io.KnownBytes.{Appends};
 ghost use Rattle.mmdb_format.specs.Error.{MemoryApart};
 ghost use Rattle.mmdb_query.specs.Ends.{WritesNone, EndsBy};
@@ -107,23 +106,30 @@ impl<'a, T: Template> RowMaker<'a, T> {
         Ok(())
     }
 
-    // Begins the row of a network, in place of another one, and says whether it is whole: what it has after its network is
-    // kept.
+    // Begins the row of a network, in place of another one.
     #[inline(always)]
-    fn begin<A: Answer>(&self, answer: &A, line: &mut Vec<u8>) -> Result<bool, AllocError>
-        requires { RowsFit T.is_tail T.fits (A.sections answer.now) self.now }
-        ensures { IfOk result (λ is_whole. MatchBool is_whole
-            (IsRow (T.front self.now.template.now)
-            (T.is_tail self.now.template.now (A.sections answer.now)) (A.had answer.now)
-            line.new.items)
-            (IsBegun (T.front self.now.template.now) (A.had answer.now) line.new.items)) }
+    fn begin<A: Answer>(&self, answer: &A, line: &mut Vec<u8>) -> Result<(), AllocError>
+        ensures { OnOk result
+            (IsBegun (T.front self.now.template.now) (A.had answer.now) line.new.items) }
     {
         line.clear();
         line.extend_from_slice(self.template.front())?;
-        answer.network().push_text(line)?;
+        answer.network().push_text(line)
+    }
+
+    // Puts the row of a network together, in place of another one, where what it has after its network is kept. Whether that was
+    // done.
+    #[inline(always)]
+    fn join_kept<A: Answer>(&self, answer: &A, line: &mut Vec<u8>) -> Result<bool, AllocError>
+        requires { RowsFit T.is_tail T.fits (A.sections answer.now) self.now }
+        ensures { IfOk result (λ is_row. is_row ≡ true → IsRow (T.front self.now.template.now)
+            (T.is_tail self.now.template.now (A.sections answer.now)) (A.had answer.now)
+            line.new.items) }
+    {
         let Some(tail) = self.kept_tail(answer) else {
             return Ok(false);
         };
+        self.begin(answer, line)?;
         line.extend_from_slice(tail.as_slice())?;
         Ok(true)
     }
@@ -198,48 +204,53 @@ impl<'a, T: Template> Rows<'a, T> {
         &self.maker.scratch
     }
 
-    // Writes the row of a network that is begun, with what was made last, which is of the same records.
+    // Joins the row of a network that is begun with what was made last.
+    fn join_last(&mut self) -> Result<(), AllocError>
+        ensures line { OnOk result
+            (self.new.line.items ≡ self.old.line.items ++ self.old.maker.last.items) }
+        ensures maker { self.new.maker ≡ self.old.maker }
+    {
+        self.line.extend_from_slice(self.maker.last.as_slice())
+    }
+
+    // Writes the row of a network with what was made last, which is of the same records.
     fn put_last<A: Answer, O: Write>(
         &mut self,
-        _answer: &A,
+        answer: &A,
         out: &mut O,
     ) -> Result<Option<MaxMindDbError>, QueryError>
-        requires begun { IsBegun (T.front self.old.maker.template.now) (A.had _answer.now)
-            self.old.line.items }
-        requires tail { T.is_tail self.old.maker.template.now (A.sections _answer.now)
-            (A.had _answer.now).offsets self.old.maker.last.items }
+        requires { T.is_tail self.old.maker.template.now (A.sections answer.now)
+            (A.had answer.now).offsets self.old.maker.last.items }
         ensures done { IfOk result (λ unread. IsDone
-            (puts_row T.front T.is_tail self.old.maker.template.now (A.sections _answer.now)
-            (A.had _answer.now))
-            (T.is_unread self.old.maker.template.now (A.sections _answer.now)
-            (A.had _answer.now).offsets)
+            (puts_row T.front T.is_tail self.old.maker.template.now (A.sections answer.now)
+            (A.had answer.now))
+            (T.is_unread self.old.maker.template.now (A.sections answer.now)
+            (A.had answer.now).offsets)
             unread nothing nothing (O.contents out.old) (O.contents out.new)) }
         ensures failed { IfErr result (WritesNone (O.contents out.old) (O.contents out.new)) }
         ensures maker { self.new.maker ≡ self.old.maker }
     {
-        let tail = self.maker.last.as_slice();
-        if tail.len() > MOST_JOINED {
-            write_parts(self.line.as_slice(), tail, out)?;
+        let Ok(()) = self.maker.begin(answer, &mut self.line) else {
+            return Ok(Some(MaxMindDbError::Memory));
+        };
+        if self.maker.last.len() > MOST_JOINED {
+            write_parts(self.line.as_slice(), self.maker.last.as_slice(), out)?;
             return Ok(None);
         }
-        let Ok(()) = self.line.extend_from_slice(tail) else {
+        let Ok(()) = self.join_last() else {
             return Ok(Some(MaxMindDbError::Memory));
         };
         write_bytes(self.line.as_slice(), out)?;
         Ok(None)
     }
 
-    // Writes the row of a network that is begun, with what it has after that. It is made anew where what was made last is of
-    // other records.
-    #[inline(never)]
+    // Writes the row of a network, with what was made last, if it is of the same records; else that is made anew.
     fn put_made<A: Answer, O: Write>(
         &mut self,
         answer: &A,
         out: &mut O,
     ) -> Result<Option<MaxMindDbError>, QueryError>
-        requires begun { IsBegun (T.front self.old.maker.template.now) (A.had answer.now)
-            self.old.line.items }
-        requires fits { RowsFit T.is_tail T.fits (A.sections answer.now) self.old.maker }
+        requires { RowsFit T.is_tail T.fits (A.sections answer.now) self.old.maker }
         ensures done { IfOk result (λ unread. IsDone
             (puts_row T.front T.is_tail self.old.maker.template.now (A.sections answer.now)
             (A.had answer.now))
@@ -276,19 +287,27 @@ impl<'a, T: Template> Sink for Rows<'a, T> {
     ghost fits = { λ s rows. RowsFit T.is_tail T.fits s rows.maker };
 
     #[inline(always)]
+    fn put_kept<A: Answer, O: Write>(
+        &mut self,
+        answer: &A,
+        out: &mut O,
+    ) -> Result<bool, QueryError> {
+        let Ok(true) = self.maker.join_kept(answer, &mut self.line) else {
+            return Ok(false);
+        };
+        write_bytes(self.line.as_slice(), out)?;
+        Ok(true)
+    }
+
     fn put<A: Answer, O: Write>(
         &mut self,
         answer: &A,
         out: &mut O,
     ) -> Result<Option<MaxMindDbError>, QueryError> {
-        match self.maker.begin(answer, &mut self.line) {
-            Ok(true) => {
-                write_bytes(self.line.as_slice(), out)?;
-                Ok(None)
-            }
-            Ok(false) => self.put_made(answer, out),
-            Err(_) => Ok(Some(MaxMindDbError::Memory)),
+        if self.put_kept(answer, out)? {
+            return Ok(None);
         }
+        self.put_made(answer, out)
     }
 
     #[cold]

@@ -3,7 +3,7 @@ ghost use Rattle.std.specs.Prelude.{◌≡◌, ℕ, List, [], Option, IfOk, IfEr
 ghost use Rattle.std.specs.Io.KnownBytes.{Appends};
 ghost use Rattle.mmdb_query.specs.Had.{Had};
 ghost use Rattle.mmdb_query.specs.Ends.{IsOfOutput, WritesNone};
-ghost use Rattle.mmdb_query.specs.Taking.{IsDone};
+ghost use Rattle.mmdb_query.specs.Taking.{IsDone, IsDoneOrNot};
 
 use crate::answer::Answer;
 use crate::error::QueryError;
@@ -31,6 +31,21 @@ pub trait Sink {
 
     /// All that it keeps by numbers of records is of records of these data sections.
     ghost fits: { List (List ℕ) → Self → Type 0 };
+
+    /// Takes a network at once, where all that this needs is at hand, as for most. Whether it was taken; else nothing was written.
+    /// An `Err` is as that of `put`.
+    fn put_kept<A: Answer, O: Write>(
+        &mut self,
+        answer: &A,
+        out: &mut O,
+    ) -> Result<bool, QueryError>
+        requires { fits (A.sections answer.now) self.old }
+        ensures done { IfOk result (λ is_done. IsDoneOrNot
+            (puts (form self.old) (A.sections answer.now) (A.had answer.now))
+            is_done (took self.old) (took self.new) (O.contents out.old) (O.contents out.new)) }
+        ensures failed { IfErr result (WritesNone (O.contents out.old) (O.contents out.new)) }
+        ensures fits { fits (A.sections answer.now) self.new }
+        ensures form { form self.new ≡ form self.old };
 
     /// Takes a network, or answers why what it needs can't be read, unless out of memory. An `Err` is of the output, or of memory,
     /// and then nothing was written.

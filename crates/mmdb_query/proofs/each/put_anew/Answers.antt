@@ -2,7 +2,7 @@ use Rattle.std.proofs.Common.{IfOk, subst}
 use Rattle.mmdb_query.specs.Steps.{TakesChosen}
 use Rattle.mmdb_query.specs.Taking.{asks}
 use Rattle.mmdb_query.proofs.TakeLaws.{chosen_taken}
-use Rattle.mmdb_query.proofs.each.put_answer.Goals as goal
+use Rattle.mmdb_query.proofs.each.put_anew.Goals as goal
 
 pub returns-in-Ok-true-clause-put : goal.returns-in-Ok-true-clause-put
 returns-in-Ok-true-clause-put g c =
