@@ -34,11 +34,7 @@ pub trait Sink {
 
     /// Takes a network at once, where all that this needs is at hand, as for most. Whether it was taken; else nothing was written.
     /// An `Err` is as that of `put`.
-    fn put_kept<A: Answer, O: Write>(
-        &mut self,
-        answer: &A,
-        out: &mut O,
-    ) -> Result<bool, QueryError>
+    fn put_kept<A: Answer, O: Write>(&mut self, answer: &A, out: &mut O) -> Result<bool, QueryError>
         requires { fits (A.sections answer.now) self.old }
         ensures done { IfOk result (λ is_done. IsDoneOrNot
             (puts (form self.old) (A.sections answer.now) (A.had answer.now))

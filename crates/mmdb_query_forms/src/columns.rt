@@ -354,6 +354,7 @@ impl<'a> Template for Columns<'a> {
     ) -> Result<(), MaxMindDbError> {
         out.extend_from_slice(self.form.behind_network())?;
         self.put_columns(alloc, scratch, answer, out)?;
+        scratch.note_row();
         Ok(out.extend_from_slice(self.form.end())?)
     }
 

@@ -149,12 +149,19 @@ impl<'r> ColumnScratch<'r> {
         }
     }
 
+    /// Notes that a row was made.
+    pub(crate) fn note_row(&mut self)
+        ensures texts { self.new.texts.items ≡ self.old.texts.items }
+        ensures kept { self.new.kept.items ≡ self.old.kept.items }
+    {
+        self.has_made = true;
+    }
+
     /// Notes whether the column at a place has a value in a row.
     pub(crate) fn note(&mut self, place: usize, has_value: bool)
         ensures texts { self.new.texts.items ≡ self.old.texts.items }
         ensures kept { self.new.kept.items ≡ self.old.kept.items }
     {
-        self.has_made = true;
         if has_value && let Some(met) = self.met.get_mut(place) {
             *met = true;
         }
