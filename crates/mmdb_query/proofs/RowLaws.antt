@@ -1,5 +1,5 @@
 -- The rows of networks.
-use Rattle.std.proofs.Common.{◌≡◌, ℕ, List, ◌++◌, Option, ap}
+use Rattle.std.proofs.Common.{ℕ, List, ◌++◌, Option, ap}
 use Rattle.mmdb_query.specs.Had.{Had}
 use Rattle.mmdb_query.specs.Rows.{IsRow, IsBegun}
 

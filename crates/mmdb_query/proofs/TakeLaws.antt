@@ -1,5 +1,5 @@
 -- What was taken and written of the items that came.
-use Rattle.std.proofs.Common.{◌≡◌, ◌⊎◌, inl, inr, ℕ, ◌+◌, List, [], ◌∷◌, ◌++◌, length, Option, Some, None, Bool, true, false, Result, Ok, Err, IfOk, refl, sym, ap, ◌∙◌, subst, append_assoc, append-nil, arith}
+use Rattle.std.proofs.Common.{◌≡◌, inl, inr, ℕ, ◌+◌, List, [], ◌∷◌, ◌++◌, Option, Some, None, Bool, true, false, Result, Ok, Err, IfOk, refl, sym, ap, ◌∙◌, subst, append_assoc, append-nil, arith}
 use Rattle.std.proofs.lemmas.List.{length-append}
 use Rattle.std.specs.Io.KnownBytes.{Appends, Keeps}
 use Rattle.std.proofs.KnownBytes.{Appends-nil, Appends-trans}
@@ -9,7 +9,7 @@ use Rattle.mmdb_format.specs.declared.error.MaxMindDbError.TheVariants.{Memory, 
 use Rattle.mmdb_query.specs.Had.{Had}
 use Rattle.mmdb_query.specs.Walks.{Item, Goes, IsStep}
 use Rattle.mmdb_query.specs.Walks.Item.{Found, Unread}
-use Rattle.mmdb_query.specs.Taking.{Asked, CantBePut, IsPicked, ArePicked, Runs, Takes, IsDone, IsDoneOrNot}
+use Rattle.mmdb_query.specs.Taking.{Asked, IsPicked, ArePicked, Runs, Takes, IsDone, IsDoneOrNot}
 use Rattle.mmdb_query.specs.Steps.{is_memory, TakesChosen, TakesItem, TakesKnown, TakesStep, FitsOf, UnderWay}
 use Rattle.mmdb_query.specs.Ends.{WritesNone, Begins, TooManyCome, EndsBy}
 use Rattle.mmdb_query.specs.declared.error.QueryError.{QueryError}

@@ -1,17 +1,15 @@
 -- Walks.
-use Rattle.std.proofs.Common.{◌≡◌, ℕ, List, [], ◌∷◌, ◌++◌, map, Option, Some, None, Result, Ok, Err, IfSome, IfOk, refl, sym, ap, ◌∙◌, subst, append_assoc}
+use Rattle.std.proofs.Common.{◌≡◌, ℕ, List, [], ◌∷◌, ◌++◌, map, Option, Some, None, Result, Ok, Err, IfSome, IfOk, sym, ap, ◌∙◌, subst, append_assoc}
 use Rattle.std.specs.declared.convert.AsSlice.{Ghosts}
 use Rattle.mmdb_format.specs.Error.{MemoryApart}
 use Rattle.mmdb_format.specs.declared.error.MaxMindDbError.{MaxMindDbError}
 use Rattle.mmdb_format.specs.declared.error.MaxMindDbError.TheVariants.{Memory, InvalidDatabase, Io, Decoding, ResourceLimit, InvalidNetwork, InvalidInput}
 use Rattle.mmdb_reader.specs.File.{Database, data_section}
-use Rattle.mmdb_reader.specs.Items.{Item as Listed, item_view}
-use Rattle.mmdb_reader.specs.Items.Item.{Failure, Network}
 use Rattle.mmdb_reader.specs.Found.{database_asked, leaf_of, offset_found, shown_as_ipv4}
 use Rattle.mmdb_reader.specs.Enumeration.{database_walked, items_to_come, YieldsItem}
 use Rattle.mmdb_reader.specs.declared.lookup_result.LookupResult.{LookupResult}
 use Rattle.mmdb_reader.specs.declared.within.Within.{Within}
-use Rattle.mmdb_query.specs.Had.{Had, shown_bits, had_alone, section_alone}
+use Rattle.mmdb_query.specs.Had.{shown_bits, had_alone, section_alone}
 use Rattle.mmdb_query.specs.Walks.{Item, Goes, IsStep, item_listed, section_walked, comes_alone}
 use Rattle.mmdb_query.specs.Walks.Item.{Found, Unread}
 

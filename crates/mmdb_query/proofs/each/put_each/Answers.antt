@@ -1,8 +1,8 @@
 use Rattle.std.proofs.lemmas.Result.{err_from_is_err_and}
-use Rattle.std.proofs.Common.{◌≡◌, ◌≤◌, ◌+◌, ◌∙◌, refl, subst, arith}
+use Rattle.std.proofs.Common.{◌∙◌, refl, subst, arith}
 use Rattle.mmdb_query.specs.Kept.{ChoiceFits}
-use Rattle.mmdb_query.specs.Taking.{Asked, asks}
-use Rattle.mmdb_query.specs.Steps.{UnderWay, TakesStep}
+use Rattle.mmdb_query.specs.Taking.{asks}
+use Rattle.mmdb_query.specs.Steps.{TakesStep}
 use Rattle.mmdb_query.proofs.KeptLaws.{fresh_choice}
 use Rattle.mmdb_query.proofs.TakeLaws.{started, none_begun, step_taken, fits_on, ended, ended_early, too_many, all_same}
 use Rattle.mmdb_query.proofs.each.put_each.Goals as goal

@@ -1,4 +1,4 @@
-use Rattle.std.proofs.Common.{◌∙◌, ap, ◌++◌, sym, subst}
+use Rattle.std.proofs.Common.{◌∙◌, sym, subst}
 use Rattle.mmdb_query.specs.Rows.{IsRow, IsBegun}
 use Rattle.mmdb_query.proofs.RowLaws.{row_of}
 use Rattle.mmdb_query.proofs.rows.Rows.put_last.Goals as goal
