@@ -3,7 +3,7 @@ use crate::clip::Clip;
 use crate::sink::NetworkSink;
 use mmdb_blocks::{BlockKind, BlocksError, Kinds, List, Syntax, Taken};
 use mmdb_console::ProgramError;
-use mmdb_layout::{FieldsMet, Found};
+use mmdb_layout::Found;
 use mmdb_reader::IpNetwork;
 use std::alloc::Global;
 use std::io::Write;
@@ -90,14 +90,6 @@ impl NetworkSink for Blocks<'_> {
         }
         let (kind, block) = self.clip.part_of(found);
         of_list(self.list.push(kind, block, out))
-    }
-
-    fn let_go(&mut self) -> bool {
-        false
-    }
-
-    fn fields_met(&mut self) -> Option<&mut FieldsMet> {
-        None
     }
 
     fn finish<O: Write>(&mut self, is_whole: bool, out: &mut O) -> Result<(), ProgramError> {

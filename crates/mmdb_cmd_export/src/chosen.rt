@@ -67,8 +67,7 @@ impl<'a, 'r, W: NetworkSink> Export<'a, 'r, W> {
         }
     }
 
-    // Reports why a network can't be written, after what was written, unless enough were named. Where there is no memory, all
-    // that is kept is let go, and it is tried once more: nothing was reported.
+    // Reports why a network can't be written, after what was written, unless enough were named.
     fn report<O: Write, E: Write>(
         &mut self,
         place: Where,
@@ -81,13 +80,7 @@ impl<'a, 'r, W: NetworkSink> Export<'a, 'r, W> {
         if self.faults > MOST_NAMED {
             return Ok(());
         }
-        match console.report_behind(place.name(console.alloc), error) {
-            Err(problem) if problem.is_memory() && self.sink.let_go() => {
-                drop(problem);
-                console.report_behind(place.name(console.alloc), error)
-            }
-            done => done,
-        }
+        console.report_behind(place.name(console.alloc), error)
     }
 
     // Whether the network of an answer is chosen.
@@ -129,27 +122,6 @@ impl<'a, 'r, W: NetworkSink> Export<'a, 'r, W> {
         self.report(self.next()?, error, console)
     }
 
-    // Writes the network of an answer, if it is chosen, which is known of some. Where there is no memory, all that is kept is
-    // let go, and it is tried once more: a row that has no memory has written nothing.
-    #[inline(always)]
-    fn try_chosen<O: Write>(
-        &mut self,
-        found: &Found<'_>,
-        kept: Option<bool>,
-        out: &mut O,
-    ) -> Result<(), ProgramError>
-        requires { IsFor self.old.choice (section_asked found.now) }
-        ensures { section_of self.new.choice ≡ section_of self.old.choice }
-    {
-        match self.write_chosen(found, kept, out) {
-            Err(error) if error.is_memory() && self.sink.let_go() => {
-                drop(error);
-                self.write_chosen(found, kept, out)
-            }
-            done => done,
-        }
-    }
-
     // Writes the network of an answer, if it is chosen, or reports why it can't be.
     #[inline(never)]
     fn write_found<O: Write, E: Write>(
@@ -161,7 +133,7 @@ impl<'a, 'r, W: NetworkSink> Export<'a, 'r, W> {
         requires { IsFor self.old.choice (section_asked found.now) }
         ensures { section_of self.new.choice ≡ section_of self.old.choice }
     {
-        match self.try_chosen(found, kept, console.out) {
+        match self.write_chosen(found, kept, console.out) {
             Err(ProgramError::Database(MaxMindDbError::Memory)) => Err(ProgramError::Memory),
             Err(ProgramError::Database(error)) => {
                 let place = Where::At(found.network().unwrap());

@@ -8,7 +8,7 @@ use crate::clip::Clip;
 use crate::sink::NetworkSink;
 use mmdb_blocks::{Block, BlockKind, BlockRange, Ranges, RangesError, listed_blocks};
 use mmdb_console::ProgramError;
-use mmdb_layout::{FieldsMet, Found};
+use mmdb_layout::Found;
 use mmdb_reader::IpNetwork;
 use std::alloc::{AllocError, Global};
 use std::io::Write;
@@ -137,14 +137,6 @@ impl NetworkSink for AddressGathering {
 
     fn put<O: Write>(&mut self, found: &Found<'_>, _out: &mut O) -> Result<(), ProgramError> {
         self.add(found)
-    }
-
-    fn let_go(&mut self) -> bool {
-        false
-    }
-
-    fn fields_met(&mut self) -> Option<&mut FieldsMet> {
-        None
     }
 
     fn finish<O: Write>(&mut self, _is_whole: bool, _out: &mut O) -> Result<(), ProgramError> {

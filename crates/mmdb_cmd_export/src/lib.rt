@@ -1,7 +1,6 @@
 //! The command `export`: the chosen networks of a range, with what their records have or as the fewest blocks.
 #![tactic(auto)]
 
-mod absent_fields;
 mod absent_paths;
 mod adjusted;
 mod asked;
@@ -13,19 +12,18 @@ mod delta;
 mod gathering;
 mod inputs;
 mod kept_checks;
-mod kept_texts;
 mod listed_values;
 mod looked;
 mod meant;
 mod missing;
 mod names;
 mod networks;
+mod reports;
 mod rows;
 mod several;
 mod sink;
 mod spelling;
 mod stretch_choice;
-mod stretch_rows;
 mod stretches;
 mod task;
 mod value_lines;

@@ -3,7 +3,6 @@ ghost use Rattle.std.specs.Prelude.{◌≡◌, IfOk};
 ghost use Rattle.mmdb_reader.specs.File.{data_section};
 ghost use Rattle.mmdb_cmd_export.specs.Chosen.{section_of, section_walked, IsFor};
 
-use crate::absent_paths::note_absent_paths;
 use crate::adjusted::write_adjusted;
 use crate::asked::{AskedTexts, asked_texts};
 use crate::blocks::Blocks;
@@ -12,7 +11,8 @@ use crate::gathering::{AddressGathering, Adjustment};
 use crate::inputs::{ValueFile, check_inputs, read_adjustment, read_value_files};
 use crate::looked::{LookedAt, looked_at};
 use crate::missing::are_values_met;
-use crate::rows::ExportRows;
+use crate::rows::write_rows;
+use crate::several::Several;
 use crate::sink::NetworkSink;
 use crate::stretches::export_files;
 use crate::task::{ExportTask, Shape, export_task};
@@ -20,7 +20,8 @@ use mmdb_arguments::{ExportArguments, NoRequest};
 use mmdb_blocks::{Kinds, Syntax};
 use mmdb_console::{Console, DONE, FAILED, Pace, ProgramError, note_range};
 use mmdb_layout::{
-    Choice, Condition, Database, Networks, can_be_walked, networks_in, open_database, range_asked,
+    Choice, Condition, Database, NamedDatabase, Networks, can_be_walked, networks_in,
+    open_database, range_asked,
 };
 use mmdb_reader::{IpNetwork, MaxMindDbError};
 use std::alloc::{AllocError, Global};
@@ -89,38 +90,8 @@ pub(crate) fn choice_of<'a>(
     Ok(Some(Choice::new(alloc, database.data_section(), conditions)?))
 }
 
-// Says of fields that no record had.
-fn note_absent<W: NetworkSink, O: Write, E: Pace>(
-    database: &Database,
-    task: &ExportTask<'_>,
-    sink: &mut W,
-    console: &mut Console<'_, O, E>,
-) -> Result<(), ProgramError> {
-    let (Some(met), Shape::Rows(layout)) = (sink.fields_met(), &task.shape) else {
-        return Ok(());
-    };
-    note_absent_paths(database, task, console)?;
-    met.note_absent(layout.path_texts(), database.data_section(), console)
-}
-
-// Writes the chosen networks, and says of fields that no record had.
-fn export_noted<'a, 'r, W: NetworkSink, O: Write, E: Pace>(
-    database: &'r Database,
-    task: &'a ExportTask<'a>,
-    networks: Networks<'r>,
-    export: &mut Export<'a, 'r, W>,
-    console: &mut Console<'_, O, E>,
-) -> Result<(), ProgramError>
-    requires { IsFor export.old.choice (section_walked networks) }
-{
-    export_all(networks, export, console)?;
-    note_absent(database, task, &mut export.sink, console)
-}
-
-// Writes the chosen networks, reports how many could not be read, and answers the status.
+// Writes the chosen networks to a list, reports how many could not be read, and answers the status.
 fn export_with<'a, 'r, W: NetworkSink, O: Write, E: Pace>(
-    database: &'r Database,
-    task: &'a ExportTask<'a>,
     networks: Networks<'r>,
     export: Export<'a, 'r, W>,
     console: &mut Console<'_, O, E>,
@@ -128,45 +99,17 @@ fn export_with<'a, 'r, W: NetworkSink, O: Write, E: Pace>(
     requires { IsFor export.choice (section_walked networks) }
 {
     let mut export = export;
-    let exported = export_noted(database, task, networks, &mut export, console);
+    let exported = export_all(networks, &mut export, console);
     let faults = export.faults;
     drop(export);
     exported?;
     report_faults(faults, console)
 }
 
-// Writes the chosen networks to a sink, if it could be begun.
-fn export_to<'a, 'r, W: NetworkSink, O: Write, E: Pace>(
-    database: &'r Database,
-    task: &'a ExportTask<'a>,
-    networks: Networks<'r>,
-    kinds: Kinds,
-    choice: Option<Choice<'a>>,
-    sink: Result<W, ProgramError>,
-    console: &mut Console<'_, O, E>,
-) -> Result<u8, ProgramError>
-    requires { IsFor choice (section_walked networks) }
-{
-    match sink {
-        Ok(sink) => match Export::new(console.alloc, choice, kinds, sink) {
-            Ok(export) => export_with(database, task, networks, export, console),
-            Err(error) => {
-                drop(networks);
-                Err(ProgramError::from(error))
-            }
-        },
-        Err(error) => {
-            drop(networks);
-            drop(choice);
-            Err(error)
-        }
-    }
-}
-
-// Writes the networks that are chosen, as rows or as a list.
+// Writes the list of the networks that are chosen, and answers the status.
 fn export_chosen<'a, 'r, O: Write, E: Pace>(
-    database: &'r Database,
     task: &'a ExportTask<'a>,
+    syntax: Syntax<'a>,
     networks: Networks<'r>,
     looked: LookedAt,
     choice: Option<Choice<'a>>,
@@ -174,19 +117,16 @@ fn export_chosen<'a, 'r, O: Write, E: Pace>(
 ) -> Result<u8, ProgramError>
     requires { IsFor choice (section_walked networks) }
 {
-    let (alloc, kinds) = (console.alloc, looked.kinds);
-    match &task.shape {
-        Shape::Rows(layout) => {
-            let section = database.data_section();
-            let rows = ExportRows::begin(alloc, layout, section, looked.range, console.out);
-            export_to(database, task, networks, kinds, choice, rows, console)
-        }
-        Shape::List(syntax) => {
-            let may_be_empty = task.allow_empty || task.may_lack();
-            let blocks = Blocks::new(alloc, *syntax, task.kinds, looked.range, may_be_empty);
-            export_to(database, task, networks, kinds, choice, blocks, console)
-        }
-    }
+    let may_be_empty = task.allow_empty || task.may_lack();
+    let blocks = Blocks::new(
+        console.alloc,
+        syntax,
+        task.kinds,
+        looked.range,
+        may_be_empty,
+    )?;
+    let export = Export::new(console.alloc, choice, looked.kinds, blocks)?;
+    export_with(networks, export, console)
 }
 
 /// The addresses of the chosen networks, and how many networks could not be read.
@@ -240,7 +180,7 @@ fn export_adjusted<'a, O: Write, E: Pace>(
     report_faults(faults, console)
 }
 
-/// Whether a list may be written by these conditions: rows may be.
+/// Whether a list may be written by these conditions.
 pub(crate) fn may_be_written<O: Write, E: Pace>(
     database: &Database,
     task: &ExportTask<'_>,
@@ -250,16 +190,17 @@ pub(crate) fn may_be_written<O: Write, E: Pace>(
     requires { IsFor choice.old (data_section database.now) }
     ensures { section_of choice.new ≡ section_of choice.old }
 {
-    match (&task.shape, choice) {
-        (Shape::List(_), Some(choice)) => are_values_met(database, task, choice, console),
-        _ => Ok(true),
+    match choice {
+        Some(choice) => are_values_met(database, task, choice, console),
+        None => Ok(true),
     }
 }
 
-// Writes the chosen networks of a database, reports each that can't be read, and answers the status.
-fn export_database<'a, O: Write, E: Pace>(
+// Writes the list of the chosen networks of a database, reports each that can't be read, and answers the status.
+fn export_list<'a, O: Write, E: Pace>(
     database: &Database,
     task: &'a ExportTask<'a>,
+    syntax: Syntax<'a>,
     adjustment: Option<&Adjustment>,
     console: &mut Console<'_, O, E>,
 ) -> Result<u8, ProgramError> {
@@ -267,15 +208,28 @@ fn export_database<'a, O: Write, E: Pace>(
     if !may_be_written(database, task, &mut choice, console)? {
         return Ok(FAILED);
     }
-    if let (Shape::List(syntax), Some(adjustment)) = (&task.shape, adjustment) {
-        return export_adjusted(database, task, *syntax, adjustment, choice, console);
+    if let Some(adjustment) = adjustment {
+        return export_adjusted(database, task, syntax, adjustment, choice, console);
     }
     let looked = looked_at(database, task)?;
-    match networks_in(console.alloc, database, looked.range) {
-        Ok(networks) => export_chosen(database, task, networks, looked, choice, console),
-        Err(error) => {
-            drop(choice);
-            Err(ProgramError::from(error))
+    let networks = networks_in(console.alloc, database, looked.range)?;
+    export_chosen(task, syntax, networks, looked, choice, console)
+}
+
+// Writes the rows or the list of a database, and answers the status.
+fn export_named<O: Write, E: Pace>(
+    named: &[NamedDatabase<'_>; 1],
+    task: &ExportTask<'_>,
+    adjustment: Option<&Adjustment>,
+    console: &mut Console<'_, O, E>,
+) -> Result<u8, ProgramError> {
+    match &task.shape {
+        Shape::Rows(layout) => {
+            let several = Several::new(console.alloc, named, task.range)?;
+            write_rows(&several, task, layout, console)
+        }
+        Shape::List(syntax) => {
+            export_list(&named[0].database, task, *syntax, adjustment, console)
         }
     }
 }
@@ -293,14 +247,14 @@ fn export_file<R: Files + Env, O: Write, E: Pace>(
     };
     let mut task = task;
     task.range = range_asked(&[&database], task.range, console)?;
-    let done = if can_be_walked(&database, file, task.range, console)? {
-        export_database(&database, &task, adjustment, console)
-    } else {
-        Ok(FAILED)
-    };
-    drop(task);
-    drop(database);
-    done
+    if !can_be_walked(&database, file, task.range, console)? {
+        return Ok(FAILED);
+    }
+    let named = [NamedDatabase {
+        name: file,
+        database,
+    }];
+    export_named(&named, &task, adjustment, console)
 }
 
 // What is added to a list and taken away, if anything is; none where a file can't be read, which is reported.

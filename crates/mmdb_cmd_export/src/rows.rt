@@ -1,260 +1,380 @@
-//! The rows of an export.
-use crate::clip::Clip;
-use crate::sink::NetworkSink;
-use mmdb_cache::Cache;
-use mmdb_console::{ProgramError, put};
-use mmdb_json::RecordTexts;
-use mmdb_layout::{FieldsMet, Found, Layout};
-use mmdb_reader::{IpNetwork, MaxMindDbError};
+//! The rows of an export, of one database or of several side by side.
+ghost use Rattle.std.specs.Prelude.{◌≡◌, [], ◌∷◌, map, IfOk, IfErr};
+ghost use Rattle.mmdb_reader.specs.File.{data_section};
+ghost use Rattle.mmdb_query.specs.Kept.{RowsFit};
+ghost use Rattle.mmdb_query.specs.Walks.{section_walked};
+ghost use Rattle.mmdb_query_forms.specs.Fitting.{ScratchFits};
+ghost use Rattle.mmdb_cmd_export.specs.Written.{AreWritten, EndRows};
+
+use crate::absent_paths::{note_absent_along, note_absent_paths};
+use crate::networks::report_faults;
+use crate::reports::{AskedOfRecords, Reports};
+use crate::several::Several;
+use crate::task::ExportTask;
+use mmdb_compare::AskedDatabase;
+use mmdb_console::{Console, FAILED, Pace, ProgramError, line_of};
+use mmdb_layout::{
+    ChosenFields, Database, Layout, MOST_RECORDS, NETWORK, RecordAt, absent_text, keys_of,
+    networks_in,
+};
+use mmdb_query::{Answer, Faults, Many, One, Part, QueryError, Rows, Template, Walk, export_rows};
+use mmdb_query_forms::{AllOf, Column, ColumnScratch, ColumnSource, Columns, RowForm};
+use mmdb_reader::MaxMindDbError;
 use std::alloc::{AllocError, Global};
-use std::io::Write;
+use std::io::{self, Write};
 
-/// The most bytes of a row that is kept, or of what is kept of a record.
-pub(crate) const MOST_BYTES: usize = 4096;
+/// The most bytes of all rows that are kept.
+const MOST_OF_ROWS: usize = 4 << 20;
 
-/// The most bytes of all that an export keeps, and of the texts of records among them.
-pub(crate) const MOST_KEPT: usize = 8 << 20;
+/// The most bytes that are kept of what rows show of records.
+const MOST_OF_RECORDS: usize = 4 << 20;
 
-const MOST_OF_TEXTS: usize = 4 << 20;
+/// How many fields are named that no record has.
+const MOST_NAMED: usize = 10;
 
-/// The most bytes of a row that is put together with its network, since three puts of some bytes each take longer than
-/// their copy and one put. A longer row is put in three parts.
-const MOST_JOINED: usize = 1024;
-
-/// Above the bytes of a network's text.
-const NETWORK_BYTES: usize = 64;
-
-/// The rows of an export. Many networks share a record, so the last rows are kept.
-#[derive(Drop)]
-pub(crate) struct ExportRows<'a, 'r> {
-    alloc: Global,
-    layout: &'a Layout<'a>,
-    /// What a row names of its network.
-    clip: Clip,
-    /// The texts of the records of the database, where rows have whole ones.
-    texts: Option<RecordTexts<'r>>,
-    /// Rows with an empty network, by the offsets of their records.
-    kept: Cache<Vec<u8>>,
-    /// The last row that was made, with an empty network, and where its record is, if it is of one.
-    last: Vec<u8>,
-    last_offset: Option<usize>,
-    /// What a row is put together in. Its room is enough, so that no row takes memory.
-    line: Vec<u8>,
-    /// Which fields the records have of which a row was made.
-    met: FieldsMet,
-}
-
-// Puts a row together with its network.
-#[inline(always)]
-fn join_row(
-    before: &[u8],
-    network: IpNetwork,
-    after: &[u8],
-    line: &mut Vec<u8>,
-) -> Result<(), AllocError> {
-    line.extend_from_slice(before)?;
-    network.push_text(line)?;
-    line.extend_from_slice(after)
-}
-
-// What a row names of the network that was found. Its bits are not masked again.
-#[inline(always)]
-fn network_of(clip: Clip, found: &Found<'_>) -> Option<IpNetwork> {
-    let (kind, block) = clip.part_of(found);
-    kind.network_of(block).ok()
-}
-
-// Writes a row with its network.
-fn write_row<O: Write>(
-    row: &[u8],
-    place: usize,
-    network: IpNetwork,
-    line: &mut Vec<u8>,
-    out: &mut O,
-) -> Result<(), ProgramError> {
-    let (before, after) = row.split_at(place.min(row.len()));
-    line.clear();
-    if row.len() <= MOST_JOINED {
-        join_row(before, network, after, line)?;
-        return put(line.as_slice(), out);
+/// What a query answered, as the program reports it.
+fn of_query(error: QueryError) -> ProgramError {
+    match error {
+        QueryError::Memory => ProgramError::Memory,
+        QueryError::Write(error) => ProgramError::Write(error),
+        QueryError::TooMany | QueryError::OutOfOrder => ProgramError::OutOfOrder,
     }
-    network.push_text(line)?;
-    for part in [before, line.as_slice(), after] {
-        put(part, out)?;
+}
+
+// How the records are called, each in a column of its own, where rows have whole ones.
+fn names_of_records(alloc: Global, several: &Several<'_>) -> Result<Vec<String>, AllocError> {
+    if several.are_several() {
+        return keys_of(alloc, several.databases(), NETWORK);
+    }
+    let mut names = Vec::new(alloc);
+    names.push(String::from_str(alloc, "record")?)?;
+    Ok(names)
+}
+
+// A column for the record of each database. One that is not asked has none.
+fn columns_of_records<'a>(
+    alloc: Global,
+    several: &Several<'_>,
+    names: &'a [String],
+) -> Result<Vec<Column<'a>>, AllocError> {
+    let mut columns = Vec::with_capacity(alloc, names.len())?;
+    for (place, name) in names.iter().enumerate() {
+        let place = several.place_of(place).unwrap_or(usize::MAX);
+        columns.push(Column::new(alloc, name.as_str(), ColumnSource::Record(place))?)?;
+    }
+    Ok(columns)
+}
+
+// A column for each field.
+fn columns_of_fields<'a>(
+    alloc: Global,
+    fields: &ChosenFields<'a>,
+) -> Result<Vec<Column<'a>>, AllocError> {
+    let mut columns = Vec::with_capacity(alloc, fields.names.len())?;
+    for (name, path) in fields.names.iter().zip(&fields.paths) {
+        let source = ColumnSource::Path(path.clone()?);
+        columns.push(Column::new(alloc, *name, source)?)?;
+    }
+    Ok(columns)
+}
+
+// The columns of rows: fields, or whole records under these names.
+fn columns_of<'a>(
+    alloc: Global,
+    several: &Several<'_>,
+    layout: &'a Layout<'a>,
+    names: &'a [String],
+) -> Result<Columns<'a>, AllocError> {
+    let (form, columns) = match layout {
+        Layout::Records => (RowForm::Json, columns_of_records(alloc, several, names)?),
+        Layout::Values(fields) => (RowForm::Json, columns_of_fields(alloc, fields)?),
+        Layout::Cells(fields) => (RowForm::Csv, columns_of_fields(alloc, fields)?),
+    };
+    Ok(Columns { form, columns })
+}
+
+// Adds where the records of a network are, as long as they are few.
+fn add_records<'d, A: Answer>(
+    several: &Several<'d>,
+    answer: &A,
+    records: &mut Vec<RecordAt<'d>>,
+) -> Result<(), AllocError> {
+    for place in 0..several.asked_count() {
+        match answer.offset(place) {
+            Some(offset) if records.len() < MOST_RECORDS => {
+                let section = several.section_at(place);
+                records.push(RecordAt { section, offset })?;
+            }
+            _ => {}
+        }
     }
     Ok(())
 }
 
-// Writes the header, where the layout has one.
-fn put_header<O: Write>(
+// Where the first records of a walk are.
+fn first_records<'d, W: Walk>(
     alloc: Global,
-    layout: &Layout<'_>,
-    out: &mut O,
-) -> Result<(), ProgramError> {
-    match layout.header(alloc)? {
-        Some(header) => put(header.as_slice(), out),
-        None => Ok(()),
+    several: &Several<'d>,
+    walk: &mut W,
+) -> Result<Vec<RecordAt<'d>>, AllocError> {
+    let mut records = Vec::new(alloc);
+    while records.len() < MOST_RECORDS {
+        match walk.next_item() {
+            Some(Ok(answer)) => add_records(several, &answer, &mut records)?,
+            Some(Err(_error)) => {}
+            None => break,
+        }
     }
+    Ok(records)
 }
 
-// The texts of the records of a data section, where rows have whole ones.
-fn texts_of<'r>(alloc: Global, layout: &Layout<'_>, section: &'r [u8]) -> Option<RecordTexts<'r>> {
-    if layout.has_records() {
-        Some(RecordTexts::new(alloc, section, MOST_OF_TEXTS))
-    } else {
-        None
-    }
+// What rows are written of, and how.
+#[derive(Clone, Copy)]
+struct RowTask<'x, 'd> {
+    alloc: Global,
+    several: &'x Several<'d>,
+    task: &'x ExportTask<'x>,
+    layout: &'x Layout<'x>,
+    columns: &'x Columns<'x>,
 }
 
-// How many bytes are kept of rows: what the texts of records leave.
-fn most_of_rows(layout: &Layout<'_>) -> usize {
-    if layout.has_records() {
-        MOST_KEPT - MOST_OF_TEXTS
-    } else {
-        MOST_KEPT
-    }
-}
-
-impl<'a, 'r> ExportRows<'a, 'r> {
-    /// The rows of the records of a data section as far as they are in a range, none yet. A header is written where the layout
-    /// has one.
-    pub(crate) fn begin<O: Write>(
-        alloc: Global,
-        layout: &'a Layout<'a>,
-        section: &'r [u8],
-        range: Option<IpNetwork>,
+impl<'x, 'd> RowTask<'x, 'd> {
+    // Writes the rows of the chosen networks of a walk, and says how many can't be read.
+    fn put_rows<W: Walk, O: Write, F: Faults>(
+        &self,
+        walk: &mut W,
+        rows: &mut Rows<'_, Columns<'x>>,
         out: &mut O,
-    ) -> Result<ExportRows<'a, 'r>, ProgramError> {
-        let line = Vec::with_capacity(alloc, MOST_JOINED + NETWORK_BYTES)?;
-        let met = FieldsMet::new(alloc, layout.paths().len())?;
-        put_header(alloc, layout, out)?;
-        Ok(ExportRows {
-            alloc,
-            layout,
-            clip: Clip::to(range),
-            texts: texts_of(alloc, layout, section),
-            kept: Cache::new(alloc, most_of_rows(layout)),
-            last: Vec::new(alloc),
-            last_offset: None,
-            line,
-            met,
-        })
-    }
-
-    // Makes the last row anew, that of an answer.
-    fn make_last(&mut self, found: &Found<'_>) -> Result<(), MaxMindDbError> {
-        self.last_offset = None;
-        match &mut self.texts {
-            Some(texts) => self
-                .layout
-                .put_row(self.alloc, found, texts, &mut self.last)?,
-            None => self.last = self.layout.row(self.alloc, found)?,
-        }
-        self.last_offset = found.offset();
-        if !self.met.are_all_met() {
-            self.met.look(found, self.layout.paths());
-        }
-        Ok(())
-    }
-
-    // Keeps a copy of the last row, where it is of a record and short, and there is memory.
-    fn keep_last(&mut self) {
-        let Some(offset) = self.last_offset else {
-            return;
+        faults: &mut F,
+    ) -> Result<u64, QueryError>
+        requires { RowsFit ⟦<Columns<'x> as Template>⟧.is_tail ⟦<Columns<'x> as Template>⟧.fits
+            (W.sections walk.old) rows.old.maker }
+        ensures written { IfOk result (AreWritten (W.comes walk.old) (W.sections walk.old)
+            self.now.task.now.conditions.items rows.old.maker.template.now
+            (O.contents out.old) (O.contents out.new)) }
+        ensures failed { IfErr result (EndRows W.comes walk.old (W.sections walk.old)
+            self.now.task.now.conditions.items rows.old.maker.template.now
+            (O.contents out.old) (O.contents out.new)) }
+    {
+        let conditions = AllOf {
+            conditions: self.task.conditions.as_slice(),
         };
-        if self.last.len() > MOST_BYTES {
-            return;
-        }
-        if let Ok(row) = Vec::from_slice(self.alloc, self.last.as_slice()) {
-            let bytes = row.len();
-            self.kept.put(offset, row, bytes);
-        }
+        export_rows(self.alloc, walk, rows, &conditions, out, faults)
     }
 
-    // Makes the row of an answer.
-    #[inline(never)]
-    fn make(&mut self, found: &Found<'_>) -> Result<(), MaxMindDbError> {
-        self.make_last(found)?;
-        self.keep_last();
-        Ok(())
-    }
-
-    // Puts the row of a network together, where it is kept, short, and there is memory for it. Whether it was.
-    #[inline(always)]
-    fn join_kept(&mut self, found: &Found<'_>) -> bool {
-        let (Some(offset), Some(network)) = (found.offset(), network_of(self.clip, found)) else {
-            return false;
+    // The same, and reports those that can't be read, of which it says how many there are: of several databases each network once.
+    fn report_rows<W: Walk, O: Write, E: Pace>(
+        &self,
+        walk: &mut W,
+        rows: &mut Rows<'_, Columns<'x>>,
+        console: &mut Console<'_, O, E>,
+    ) -> Result<u64, ProgramError>
+        requires { RowsFit ⟦<Columns<'x> as Template>⟧.is_tail ⟦<Columns<'x> as Template>⟧.fits
+            (W.sections walk.old) rows.old.maker }
+    {
+        let asked = AskedOfRecords {
+            conditions: self.task.conditions.as_slice(),
+            columns: self.columns,
         };
-        let Some(row) = self.kept.get(offset) else {
-            return false;
-        };
-        let text = row.as_slice();
-        if text.len() > MOST_JOINED {
-            return false;
+        let mut nowhere = io::sink();
+        let errors = Console::new(
+            self.alloc,
+            console.terminals,
+            &mut nowhere,
+            &mut *console.errors,
+        );
+        let mut reports = Reports::new(errors, self.several, asked)?;
+        let written = self.put_rows(walk, rows, console.out, &mut reports);
+        reports.clear_progress();
+        match written {
+            Ok(_) => Ok(reports.count),
+            Err(error) => Err(of_query(error)),
         }
-        let (before, after) = text.split_at(self.layout.place_of_network().min(text.len()));
-        self.line.clear();
-        join_row(before, network, after, &mut self.line).is_ok()
     }
 
-    // Writes the last row, with a network.
-    fn write_last<O: Write>(
-        &mut self,
-        network: IpNetwork,
-        out: &mut O,
+    // Writes the rows of what is asked for of a walk.
+    fn write_part<W: Walk + Drop, O: Write, E: Pace>(
+        &self,
+        walk: W,
+        rows: &mut Rows<'_, Columns<'x>>,
+        console: &mut Console<'_, O, E>,
+    ) -> Result<u64, ProgramError>
+        requires { RowsFit ⟦<Columns<'x> as Template>⟧.is_tail ⟦<Columns<'x> as Template>⟧.fits
+            (W.sections walk) rows.old.maker }
+    {
+        let mut walk = walk;
+        if !self.task.is_of_part() {
+            return self.report_rows(&mut walk, rows, console);
+        }
+        let mut part = Part {
+            walk,
+            kinds: self.task.kinds,
+            range: self.several.alone().and(self.task.range),
+        };
+        self.report_rows(&mut part, rows, console)
+    }
+
+    // Writes the rows of a walk with what they are made with, says of fields that no record had, and answers the status.
+    fn write<W: Walk + Drop, O: Write, E: Pace>(
+        &self,
+        walk: W,
+        scratch: ColumnScratch<'x>,
+        console: &mut Console<'_, O, E>,
+    ) -> Result<u8, ProgramError>
+        requires { ScratchFits self.now.columns.now (W.sections walk) scratch }
+    {
+        let mut rows = Rows::new(self.alloc, self.columns, scratch, MOST_OF_ROWS)?;
+        let unread = self.write_part(walk, &mut rows, console)?;
+        self.note_absent(rows.scratch(), console)?;
+        drop(rows);
+        report_faults(unread, console)
+    }
+
+    // Writes the rows of a database.
+    fn write_one<O: Write, E: Pace>(
+        &self,
+        database: &'x Database,
+        console: &mut Console<'_, O, E>,
+    ) -> Result<u8, ProgramError> {
+        let walk = One::new(networks_in(self.alloc, database, self.task.range)?);
+        self.put_header(console)?;
+        let mut scratch = ColumnScratch::new(self.alloc, self.columns, 1, MOST_OF_RECORDS)?;
+        scratch.add_section(database.data_section())?;
+        self.write(walk, scratch, console)
+    }
+
+    // What rows are made with, of the records of databases.
+    fn scratch_of(
+        &self,
+        databases: &[AskedDatabase<'x, Vec<u8>>],
+    ) -> Result<ColumnScratch<'x>, AllocError>
+        ensures sections { IfOk result (λ scratch. scratch.texts.items
+            ≡ map (λ d. data_section d.reader.now) databases.now) }
+        ensures fits { IfOk result (λ scratch.
+            ScratchFits self.now.columns.now scratch.texts.items scratch) }
+    {
+        let count = databases.len();
+        let mut scratch = ColumnScratch::new(self.alloc, self.columns, count, MOST_OF_RECORDS)?;
+        for asked in databases {
+            scratch.add_section(asked.reader.data_section())?;
+        }
+        Ok(scratch)
+    }
+
+    // Writes the rows of several databases.
+    fn write_many<O: Write, E: Pace>(
+        &self,
+        asked: &'x [AskedDatabase<'x, Vec<u8>>],
+        console: &mut Console<'_, O, E>,
+    ) -> Result<u8, ProgramError> {
+        let walk = match Many::new(self.alloc, asked) {
+            Ok(walk) => walk,
+            Err((_, MaxMindDbError::Memory)) => return Err(ProgramError::Memory),
+            Err((place, error)) => {
+                console.report(self.several.name_at(place), &error);
+                return Ok(FAILED);
+            }
+        };
+        self.put_header(console)?;
+        let scratch = self.scratch_of(asked)?;
+        self.write(walk, scratch, console)
+    }
+
+    // Writes the header, where there is one.
+    fn put_header<O: Write, E: Pace>(
+        &self,
+        console: &mut Console<'_, O, E>,
     ) -> Result<(), ProgramError> {
-        let at = self.layout.place_of_network();
-        write_row(self.last.as_slice(), at, network, &mut self.line, out)
-    }
-}
-
-impl NetworkSink for ExportRows<'_, '_> {
-    #[inline(always)]
-    fn take<O: Write>(&mut self, found: &Found<'_>, out: &mut O) -> Result<bool, ProgramError> {
-        if !self.join_kept(found) {
-            return Ok(false);
-        }
-        match out.write_all(self.line.as_slice()) {
-            Ok(()) => Ok(true),
-            Err(error) => Err(ProgramError::Write(error)),
+        match self.layout.header(self.alloc)? {
+            Some(header) => console.put(header.as_slice()),
+            None => Ok(()),
         }
     }
 
-    fn put<O: Write>(&mut self, found: &Found<'_>, out: &mut O) -> Result<(), ProgramError> {
-        let network = match network_of(self.clip, found) {
-            Some(network) => network,
-            None => found.network()?,
+    // Where the first records in the range are.
+    fn first_records(&self) -> Result<Vec<RecordAt<'x>>, MaxMindDbError> {
+        if let Some(database) = self.several.alone() {
+            let networks = networks_in(self.alloc, database, self.task.range)?;
+            return Ok(first_records(self.alloc, self.several, &mut One::new(networks))?);
+        }
+        match Many::new(self.alloc, self.several.asked()) {
+            Ok(mut walk) => Ok(first_records(self.alloc, self.several, &mut walk)?),
+            Err((_, error)) => Err(error),
+        }
+    }
+
+    // Says of the fields of these names that no record has them, after what was written.
+    fn note_fields<O: Write, E: Pace>(
+        &self,
+        names: &[&str],
+        console: &mut Console<'_, O, E>,
+    ) -> Result<(), ProgramError> {
+        if names.is_empty() {
+            return Ok(());
+        }
+        console.flush()?;
+        let records = match self.first_records() {
+            Ok(records) => records,
+            Err(_) => Vec::new(self.alloc),
         };
-        let offset = found.offset();
-        if let Some(offset) = offset {
-            if let Some(row) = self.kept.get(offset) {
-                let at = self.layout.place_of_network();
-                return write_row(row.as_slice(), at, network, &mut self.line, out);
+        for name in names.iter().take(MOST_NAMED) {
+            let text = absent_text(self.alloc, "no record", *name, records.as_slice());
+            console.note(line_of(self.alloc, text));
+        }
+        let more = names.len().saturating_sub(MOST_NAMED);
+        if more > 0 {
+            console.note(format!(in self.alloc; "mmdb: nor {more} fields more\n"));
+        }
+        Ok(())
+    }
+
+    // The fields that no row has which was made, if one was.
+    fn absent_fields(&self, scratch: &ColumnScratch<'_>) -> Result<Vec<&'x str>, AllocError> {
+        let mut absent = Vec::new(self.alloc);
+        if !scratch.has_made() {
+            return Ok(absent);
+        }
+        for (place, text) in self.layout.path_texts().iter().enumerate() {
+            if !scratch.has_met(place) {
+                absent.push(*text)?;
             }
         }
-        if offset.is_none() || self.last_offset != offset {
-            self.make(found)?;
+        Ok(absent)
+    }
+
+    // Says of paths of conditions and of fields that no record has them.
+    fn note_absent<O: Write, E: Pace>(
+        &self,
+        scratch: &ColumnScratch<'_>,
+        console: &mut Console<'_, O, E>,
+    ) -> Result<(), ProgramError> {
+        match self.several.alone() {
+            Some(database) => note_absent_paths(database, self.task, console)?,
+            None => note_absent_along(self.several, self.task, console)?,
         }
-        self.write_last(network, out)
+        let absent = self.absent_fields(scratch)?;
+        self.note_fields(absent.as_slice(), console)
     }
+}
 
-    #[cold]
-    #[inline(never)]
-    fn let_go(&mut self) -> bool {
-        self.kept.clear();
-        self.last = Vec::new(self.alloc);
-        self.last_offset = None;
-        if let Some(texts) = &mut self.texts {
-            texts.clear();
-        }
-        true
-    }
-
-    fn fields_met(&mut self) -> Option<&mut FieldsMet> {
-        Some(&mut self.met)
-    }
-
-    fn finish<O: Write>(&mut self, _is_whole: bool, _out: &mut O) -> Result<(), ProgramError> {
-        Ok(())
+/// Writes the rows of the chosen networks of databases, reports each that can't be read, and answers the status.
+pub(crate) fn write_rows<O: Write, E: Pace>(
+    several: &Several<'_>,
+    task: &ExportTask<'_>,
+    layout: &Layout<'_>,
+    console: &mut Console<'_, O, E>,
+) -> Result<u8, ProgramError> {
+    let names = names_of_records(console.alloc, several)?;
+    let columns = columns_of(console.alloc, several, layout, names.as_slice())?;
+    let rows = RowTask {
+        alloc: console.alloc,
+        several,
+        task,
+        layout,
+        columns: &columns,
+    };
+    match several.alone() {
+        Some(database) => rows.write_one(database, console),
+        None => rows.write_many(several.asked(), console),
     }
 }

@@ -1,4 +1,6 @@
 //! Several databases side by side.
+ghost use Rattle.std.specs.Prelude.{◌≡◌};
+
 use crate::clip::ipv4_part;
 use mmdb_blocks::{Block, BlockKind, Kinds};
 use mmdb_compare::{AskedDatabase, Together, TogetherStretch};
@@ -193,9 +195,29 @@ impl<'d> Several<'d> {
         self.databases
     }
 
+    /// Those that are asked, each in the range in which it can be.
+    pub(crate) fn asked(&self) -> &[AskedDatabase<'d, Vec<u8>>]
+        ensures { result.now ≡ self.now.asked.items }
+    {
+        self.asked.as_slice()
+    }
+
     /// How many are asked.
     pub(crate) fn asked_count(&self) -> usize {
         self.asked.len()
+    }
+
+    /// Whether there are two or more.
+    pub(crate) fn are_several(&self) -> bool {
+        self.databases.len() > 1
+    }
+
+    /// The one database, if there is just one.
+    pub(crate) fn alone(&self) -> Option<&'d Database> {
+        match self.databases {
+            [named] => Some(&named.database),
+            _ => None,
+        }
     }
 
     /// The place among those that are asked of the one at a place among all.

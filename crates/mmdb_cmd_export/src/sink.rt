@@ -1,22 +1,16 @@
 //! What chosen networks are written as.
 use mmdb_blocks::BlockKind;
 use mmdb_console::ProgramError;
-use mmdb_layout::{FieldsMet, Found};
+use mmdb_layout::Found;
 use std::io::Write;
 
-/// What chosen networks are written as: rows, or a list of blocks. They come ascending.
+/// What chosen networks are put into. They come ascending.
 pub(crate) trait NetworkSink: Drop {
     /// Takes a network where all that it needs is at hand, as of most. Whether it was taken; else `put` takes it.
     fn take<O: Write>(&mut self, found: &Found<'_>, out: &mut O) -> Result<bool, ProgramError>;
 
     /// Takes a network. An `Err` of memory comes before anything is written of it.
     fn put<O: Write>(&mut self, found: &Found<'_>, out: &mut O) -> Result<(), ProgramError>;
-
-    /// Lets go of what is kept to be faster. Whether there may be some.
-    fn let_go(&mut self) -> bool;
-
-    /// Which fields the records have, where fields are written.
-    fn fields_met(&mut self) -> Option<&mut FieldsMet>;
 
     /// Writes what comes after the last network. Where a network could not be read, the list is not whole.
     fn finish<O: Write>(&mut self, is_whole: bool, out: &mut O) -> Result<(), ProgramError>;

@@ -1,22 +1,19 @@
-//! The chosen stretches of several databases, written out.
-use crate::absent_paths::note_absent_along;
+//! Several databases side by side, written out.
 use crate::adjusted::write_adjusted;
 use crate::gathering::{Addresses, Adjustment};
 use crate::missing::are_values_met_in;
 use crate::networks::{MOST_NAMED, report_faults};
+use crate::rows::write_rows;
 use crate::several::{
     Answers, Offsets, Several, fault_along, ipv4_beside, is_listed, kind_of_stretch,
     network_of_stretch,
 };
 use crate::stretch_choice::StretchChoice;
-use crate::stretch_rows::StretchRows;
 use crate::task::{ExportTask, Shape};
 use mmdb_blocks::{BlockKind, Kinds, Syntax};
 use mmdb_compare::{Together, TogetherPart, TogetherStretch, UnreadLeaf};
 use mmdb_console::{Console, FAILED, Pace, Passed, ProgramError, Where};
-use mmdb_layout::{
-    BesideFiles, Condition, Layout, NamedDatabase, can_be_walked, open_named, range_asked,
-};
+use mmdb_layout::{BesideFiles, Condition, NamedDatabase, can_be_walked, open_named, range_asked};
 use mmdb_reader::{IpNetwork, MaxMindDbError};
 use std::alloc::{AllocError, Global};
 use std::env::Env;
@@ -26,35 +23,6 @@ use std::rt::Files;
 /// After this many stretches it is shown how many passed.
 const STEP: u64 = 1 << 16;
 
-/// What chosen stretches are put into.
-pub(crate) trait StretchSink: Drop {
-    /// Whether it takes stretches of some kinds of addresses, of which this is one.
-    fn takes(&self, kinds: Kinds, stretch: TogetherStretch) -> bool;
-
-    /// Takes a stretch where all that it needs of the records there is kept. Whether it was taken; else `put` takes it.
-    fn take<O: Write>(
-        &mut self,
-        stretch: TogetherStretch,
-        offsets: &Offsets,
-        out: &mut O,
-    ) -> Result<bool, ProgramError>;
-
-    /// Takes a stretch. Where something of it can't be read, or memory is out, nothing is written of it.
-    fn put<O: Write>(
-        &mut self,
-        stretch: TogetherStretch,
-        offsets: &Offsets,
-        answers: &Answers<'_>,
-        out: &mut O,
-    ) -> Result<(), ProgramError>;
-
-    /// The place of the answer that it could not read, if there is one.
-    fn fault_in(&self, answers: &Answers<'_>) -> Option<usize>;
-
-    /// Lets go of what is kept to be faster. Whether there may be some.
-    fn let_go(&mut self) -> bool;
-}
-
 // Adds the addresses of a stretch.
 fn add_stretch(stretch: TogetherStretch, addresses: &mut Addresses) -> Result<(), ProgramError> {
     if let Some(block) = ipv4_beside(stretch) {
@@ -63,53 +31,9 @@ fn add_stretch(stretch: TogetherStretch, addresses: &mut Addresses) -> Result<()
     addresses.add_block(kind_of_stretch(stretch), stretch.block)
 }
 
-impl StretchSink for Addresses {
-    fn takes(&self, kinds: Kinds, stretch: TogetherStretch) -> bool {
-        is_listed(kinds, stretch)
-    }
-
-    fn take<O: Write>(
-        &mut self,
-        stretch: TogetherStretch,
-        _offsets: &Offsets,
-        _out: &mut O,
-    ) -> Result<bool, ProgramError> {
-        add_stretch(stretch, self)?;
-        Ok(true)
-    }
-
-    fn put<O: Write>(
-        &mut self,
-        stretch: TogetherStretch,
-        _offsets: &Offsets,
-        _answers: &Answers<'_>,
-        _out: &mut O,
-    ) -> Result<(), ProgramError> {
-        add_stretch(stretch, self)
-    }
-
-    fn fault_in(&self, _answers: &Answers<'_>) -> Option<usize> {
-        None
-    }
-
-    fn let_go(&mut self) -> bool {
-        false
-    }
-}
-
-// The place of the answer that can't be read as conditions or a sink ask, if it is one.
-fn fault_in<W: StretchSink>(
-    alloc: Global,
-    conditions: &[Condition<'_>],
-    sink: &W,
-    answers: &Answers<'_>,
-) -> Option<usize> {
-    for condition in conditions {
-        if let Some(place) = fault_along(alloc, answers, condition.path.as_slice()) {
-            return Some(place);
-        }
-    }
-    sink.fault_in(answers)
+// The place of the answer that can't be read as conditions ask, if it is one.
+fn fault_in(alloc: Global, conditions: &[Condition<'_>], answers: &Answers<'_>) -> Option<usize> {
+    conditions.iter().find_map(|condition| fault_along(alloc, answers, condition.path.as_slice()))
 }
 
 // A network that can't be read: as the file has it that is at fault, if that is known, or else that of a stretch.
@@ -166,11 +90,11 @@ fn name_of_leaf(alloc: Global, file: &str, leaf: &UnreadLeaf) -> Result<String, 
 
 // An export of the chosen stretches.
 #[derive(Drop)]
-struct StretchExport<'a, 's, 'd, W: StretchSink> {
+struct StretchExport<'a, 's, 'd> {
     several: &'s Several<'d>,
     kinds: Kinds,
     choice: StretchChoice<'a>,
-    sink: W,
+    addresses: Addresses,
     faults: u64,
     /// The network of each database that was the last one of it that could not be read.
     faulty: Vec<Option<IpNetwork>>,
@@ -178,20 +102,19 @@ struct StretchExport<'a, 's, 'd, W: StretchSink> {
     passed: u64,
 }
 
-impl<'a, 's, 'd, W: StretchSink> StretchExport<'a, 's, 'd, W> {
+impl<'a, 's, 'd> StretchExport<'a, 's, 'd> {
     // Of no stretch yet.
     fn new(
         alloc: Global,
         several: &'s Several<'d>,
         kinds: Kinds,
         choice: StretchChoice<'a>,
-        sink: W,
-    ) -> Result<StretchExport<'a, 's, 'd, W>, AllocError> {
+    ) -> Result<StretchExport<'a, 's, 'd>, AllocError> {
         Ok(StretchExport {
             several,
             kinds,
             choice,
-            sink,
+            addresses: Addresses::new(alloc),
             faults: 0,
             faulty: vec![in alloc; None; several.asked_count()]?,
             passed: 0,
@@ -200,39 +123,31 @@ impl<'a, 's, 'd, W: StretchSink> StretchExport<'a, 's, 'd, W> {
 
     // Lets go of all that is kept to be faster. Whether there may be some.
     fn let_go(&mut self) -> bool {
-        let had_answers = self.choice.let_go();
-        self.sink.let_go() || had_answers
+        self.choice.let_go()
     }
 
-    // Puts a stretch, if it is chosen, which is known of some.
-    fn put_chosen<O: Write>(
+    // Adds the addresses of a stretch, if it is chosen.
+    fn add_chosen(
         &mut self,
         stretch: TogetherStretch,
-        kept: Option<bool>,
-        offsets: &Offsets,
         answers: &Answers<'_>,
-        out: &mut O,
     ) -> Result<(), ProgramError> {
-        if kept != Some(true) && !self.choice.chooses(answers)? {
-            return Ok(());
+        if self.choice.chooses(answers)? {
+            return add_stretch(stretch, &mut self.addresses);
         }
-        self.sink.put(stretch, offsets, answers, out)
+        Ok(())
     }
 
-    // Puts a stretch, if it is chosen, which is known of some. Where there is no memory, all that is kept is let go, and it is
-    // tried once more: nothing was written.
-    fn try_chosen<O: Write>(
+    // The same. Where there is no memory, all that is kept is let go, and it is tried once more.
+    fn try_chosen(
         &mut self,
         stretch: TogetherStretch,
-        kept: Option<bool>,
-        offsets: &Offsets,
         answers: &Answers<'_>,
-        out: &mut O,
     ) -> Result<(), ProgramError> {
-        match self.put_chosen(stretch, kept, offsets, answers, out) {
+        match self.add_chosen(stretch, answers) {
             Err(error) if error.is_memory() && self.let_go() => {
                 drop(error);
-                self.put_chosen(stretch, kept, offsets, answers, out)
+                self.add_chosen(stretch, answers)
             }
             done => done,
         }
@@ -269,7 +184,7 @@ impl<'a, 's, 'd, W: StretchSink> StretchExport<'a, 's, 'd, W> {
         error: &MaxMindDbError,
         console: &mut Console<'_, O, E>,
     ) -> Result<(), ProgramError> {
-        let place = fault_in(console.alloc, self.choice.conditions(), &self.sink, answers);
+        let place = fault_in(console.alloc, self.choice.conditions(), answers);
         let faulty = FaultyNetwork::of(stretch, place, answers)?;
         if !self.is_new_fault(faulty) {
             return Ok(());
@@ -287,16 +202,14 @@ impl<'a, 's, 'd, W: StretchSink> StretchExport<'a, 's, 'd, W> {
         }
     }
 
-    // Writes a stretch, if it is chosen, or reports why it can't be.
-    fn write_answered<O: Write, E: Write>(
+    // Adds the addresses of a stretch, if it is chosen, or reports why that can't be read.
+    fn add_answered<O: Write, E: Write>(
         &mut self,
         stretch: TogetherStretch,
-        kept: Option<bool>,
-        offsets: &Offsets,
         answers: &Answers<'_>,
         console: &mut Console<'_, O, E>,
     ) -> Result<(), ProgramError> {
-        match self.try_chosen(stretch, kept, offsets, answers, console.out) {
+        match self.try_chosen(stretch, answers) {
             Err(ProgramError::Database(MaxMindDbError::Memory)) => Err(ProgramError::Memory),
             Err(ProgramError::Database(error)) => {
                 let reported = self.report(stretch, answers, &error, console);
@@ -320,29 +233,8 @@ impl<'a, 's, 'd, W: StretchSink> StretchExport<'a, 's, 'd, W> {
         }
     }
 
-    // Takes a stretch, where it is known whether it is chosen, and all that it needs is kept. Whether that was done. Where there
-    // is no memory, all that is kept is let go.
-    fn take_kept<O: Write>(
-        &mut self,
-        stretch: TogetherStretch,
-        kept: Option<bool>,
-        offsets: &Offsets,
-        out: &mut O,
-    ) -> Result<bool, ProgramError> {
-        if kept != Some(true) {
-            return Ok(kept.is_some());
-        }
-        match self.sink.take(stretch, offsets, out) {
-            Err(error) if error.is_memory() && self.let_go() => {
-                drop(error);
-                Ok(false)
-            }
-            done => done,
-        }
-    }
-
-    // Writes a stretch of a kind that is wanted, if it is chosen.
-    fn write<O: Write, E: Pace>(
+    // Adds the addresses of a stretch of a kind that is wanted, if it is chosen.
+    fn add<O: Write, E: Pace>(
         &mut self,
         together: &Together<'d, Vec<u8>>,
         stretch: TogetherStretch,
@@ -350,18 +242,19 @@ impl<'a, 's, 'd, W: StretchSink> StretchExport<'a, 's, 'd, W> {
         console: &mut Console<'_, O, E>,
     ) -> Result<(), ProgramError> {
         self.show_passed(console);
-        if !self.sink.takes(self.kinds, stretch) {
+        if !is_listed(self.kinds, stretch) {
             return Ok(());
         }
         self.several.put_offsets(together, offsets)?;
-        let kept = self.choice.kept(offsets);
-        if self.take_kept(stretch, kept, offsets, console.out)? {
-            return Ok(());
+        match self.choice.kept(offsets) {
+            Some(true) => return add_stretch(stretch, &mut self.addresses),
+            Some(false) => return Ok(()),
+            None => {}
         }
         let answers = self.answers(console.alloc, together, stretch)?;
-        let written = self.write_answered(stretch, kept, offsets, &answers, console);
+        let added = self.add_answered(stretch, &answers, console);
         drop(answers);
-        written
+        added
     }
 
     // Shows on a terminal how many stretches passed.
@@ -393,8 +286,8 @@ impl<'a, 's, 'd, W: StretchSink> StretchExport<'a, 's, 'd, W> {
         reported
     }
 
-    // Writes all chosen stretches.
-    fn write_all<O: Write, E: Pace>(
+    // Adds the addresses of all chosen stretches.
+    fn add_all<O: Write, E: Pace>(
         &mut self,
         together: &mut Together<'d, Vec<u8>>,
         console: &mut Console<'_, O, E>,
@@ -403,7 +296,7 @@ impl<'a, 's, 'd, W: StretchSink> StretchExport<'a, 's, 'd, W> {
         for _ in 0..u64::MAX {
             match together.next_part() {
                 Some(TogetherPart::Stretch(stretch)) => {
-                    self.write(together, stretch, &mut offsets, console)?;
+                    self.add(together, stretch, &mut offsets, console)?;
                 }
                 Some(TogetherPart::Unread(place)) => {
                     let leaf = together.take_unread(place);
@@ -425,28 +318,6 @@ fn choice_of_stretches<'a>(
     StretchChoice::new(alloc, task.conditions.as_slice(), several.asked_count())
 }
 
-// Writes the rows of the chosen stretches, and answers the status.
-fn write_rows<'a, 's, 'd, O: Write, E: Pace>(
-    several: &'s Several<'d>,
-    task: &'a ExportTask<'a>,
-    layout: &'a Layout<'a>,
-    together: &mut Together<'d, Vec<u8>>,
-    console: &mut Console<'_, O, E>,
-) -> Result<u8, ProgramError> {
-    let rows = StretchRows::begin(console.alloc, layout, several, console.out)?;
-    let choice = choice_of_stretches(console.alloc, several, task);
-    let mut export = StretchExport::new(console.alloc, several, task.kinds, choice, rows)?;
-    let written = match export.write_all(together, console) {
-        Ok(()) => export.sink.note_absent(console),
-        Err(error) => Err(error),
-    };
-    let faults = export.faults;
-    drop(export);
-    written?;
-    note_absent_along(several, task, console)?;
-    report_faults(faults, console)
-}
-
 // Writes the list of the chosen stretches, with what is added and without what is taken away, and answers the status.
 fn write_list<'a, 's, 'd, O: Write, E: Pace>(
     several: &'s Several<'d>,
@@ -458,16 +329,15 @@ fn write_list<'a, 's, 'd, O: Write, E: Pace>(
 ) -> Result<u8, ProgramError> {
     let alloc = console.alloc;
     let choice = choice_of_stretches(alloc, several, task);
-    let addresses = Addresses::new(alloc);
-    let mut export = StretchExport::new(alloc, several, task.kinds, choice, addresses)?;
-    let exported = export.write_all(together, console);
+    let mut export = StretchExport::new(alloc, several, task.kinds, choice)?;
+    let exported = export.add_all(together, console);
     export.let_go();
     let written = match exported {
         Ok(()) => write_adjusted(
             alloc,
             task,
             syntax,
-            &export.sink,
+            &export.addresses,
             adjustment,
             export.faults == 0,
             console.out,
@@ -480,46 +350,30 @@ fn write_list<'a, 's, 'd, O: Write, E: Pace>(
     report_faults(faults, console)
 }
 
-// Writes the chosen stretches, and answers the status.
-fn write_shape<'a, 's, 'd, O: Write, E: Pace>(
+// Writes the list of the chosen stretches with what may be added and taken away, and answers the status.
+fn write_adjusted_list<'a, 's, 'd, O: Write, E: Pace>(
     several: &'s Several<'d>,
     task: &'a ExportTask<'a>,
+    syntax: Syntax<'a>,
     adjustment: Option<&Adjustment>,
     together: &mut Together<'d, Vec<u8>>,
     console: &mut Console<'_, O, E>,
 ) -> Result<u8, ProgramError> {
-    match (&task.shape, adjustment) {
-        (Shape::Rows(layout), _) => write_rows(several, task, layout, together, console),
-        (Shape::List(syntax), Some(adjustment)) => {
-            write_list(several, task, *syntax, adjustment, together, console)
-        }
-        (Shape::List(syntax), None) => {
-            let nothing = Adjustment::of_nothing(console.alloc);
-            let done = write_list(several, task, *syntax, &nothing, together, console);
-            drop(nothing);
-            done
-        }
+    if let Some(adjustment) = adjustment {
+        return write_list(several, task, syntax, adjustment, together, console);
     }
+    let nothing = Adjustment::of_nothing(console.alloc);
+    let done = write_list(several, task, syntax, &nothing, together, console);
+    drop(nothing);
+    done
 }
 
-// Whether what is asked for may be written: a list only where networks have the values of its conditions.
-fn may_be_written<'a, 's, 'd, O: Write, E: Pace>(
+// Writes the list of the chosen stretches of databases that are asked, if networks have the values of its conditions, reports
+// what can't be read, and answers the status.
+fn export_list<'a, 's, 'd, O: Write, E: Pace>(
     several: &'s Several<'d>,
     task: &'a ExportTask<'a>,
-    console: &mut Console<'_, O, E>,
-) -> Result<bool, ProgramError> {
-    match &task.shape {
-        Shape::List(_) if !task.conditions.is_empty() => {
-            are_values_met_in(several, task, console)
-        }
-        _ => Ok(true),
-    }
-}
-
-// Writes the chosen stretches of databases that are asked, reports what can't be read, and answers the status.
-fn export_asked<'a, 's, 'd, O: Write, E: Pace>(
-    several: &'s Several<'d>,
-    task: &'a ExportTask<'a>,
+    syntax: Syntax<'a>,
     adjustment: Option<&Adjustment>,
     console: &mut Console<'_, O, E>,
 ) -> Result<u8, ProgramError> {
@@ -532,16 +386,17 @@ fn export_asked<'a, 's, 'd, O: Write, E: Pace>(
             return Ok(FAILED);
         }
     };
-    let done = match may_be_written(several, task, console) {
-        Ok(true) => write_shape(several, task, adjustment, &mut together, console),
-        Ok(false) => Ok(FAILED),
-        Err(error) => Err(error),
+    let may_be_written = task.conditions.is_empty() || are_values_met_in(several, task, console)?;
+    let done = if may_be_written {
+        write_adjusted_list(several, task, syntax, adjustment, &mut together, console)
+    } else {
+        Ok(FAILED)
     };
     drop(together);
     done
 }
 
-// Writes the chosen stretches of databases, and answers the status.
+// Writes the rows or the list of several databases, and answers the status.
 fn export_databases<'a, 'd, O: Write, E: Pace>(
     databases: &'d [NamedDatabase<'d>],
     task: &'a ExportTask<'a>,
@@ -549,7 +404,10 @@ fn export_databases<'a, 'd, O: Write, E: Pace>(
     console: &mut Console<'_, O, E>,
 ) -> Result<u8, ProgramError> {
     let several = Several::new(console.alloc, &*databases, task.range)?;
-    let done = export_asked(&several, task, adjustment, console);
+    let done = match &task.shape {
+        Shape::Rows(layout) => write_rows(&several, task, layout, console),
+        Shape::List(syntax) => export_list(&several, task, *syntax, adjustment, console),
+    };
     drop(several);
     done
 }
