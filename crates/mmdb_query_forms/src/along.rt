@@ -7,8 +7,8 @@ use std::alloc::Global;
 
 /// What databases have, of which values are read along paths.
 #[derive(Drop)]
-pub(crate) struct Along<'x, A: Answer> {
-    pub(crate) answer: &'x A,
+pub struct Along<'x, A: Answer> {
+    pub answer: &'x A,
 }
 
 impl<'x, A: Answer> ReadAlong for Along<'x, A> {

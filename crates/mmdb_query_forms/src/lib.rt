@@ -11,6 +11,7 @@ mod scratch;
 mod whole;
 
 pub use all_of::AllOf;
+pub use along::Along;
 pub use column::{Column, ColumnSource};
 pub use columns::{Columns, RowForm};
 pub use scratch::ColumnScratch;
