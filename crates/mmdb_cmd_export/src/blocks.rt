@@ -1,6 +1,5 @@
 //! Lists of the fewest blocks.
 use crate::clip::Clip;
-use crate::sink::NetworkSink;
 use mmdb_blocks::{BlockKind, BlocksError, Kinds, List, Syntax, Taken};
 use mmdb_console::ProgramError;
 use mmdb_layout::Found;
@@ -70,11 +69,14 @@ impl<'a> Blocks<'a> {
         of_list(self.list.write_settled(out))?;
         Ok(true)
     }
-}
 
-impl NetworkSink for Blocks<'_> {
+    /// Takes a network where no memory is needed, as for most. They come ascending. Whether it was taken; else `put` takes it.
     #[inline(always)]
-    fn take<O: Write>(&mut self, found: &Found<'_>, out: &mut O) -> Result<bool, ProgramError> {
+    pub(crate) fn take<O: Write>(
+        &mut self,
+        found: &Found<'_>,
+        out: &mut O,
+    ) -> Result<bool, ProgramError> {
         let (kind, block) = self.clip.part_of(found);
         match self.list.take(kind, block) {
             Taken::Whole => Ok(true),
@@ -83,7 +85,12 @@ impl NetworkSink for Blocks<'_> {
         }
     }
 
-    fn put<O: Write>(&mut self, found: &Found<'_>, out: &mut O) -> Result<(), ProgramError> {
+    /// Takes a network.
+    pub(crate) fn put<O: Write>(
+        &mut self,
+        found: &Found<'_>,
+        out: &mut O,
+    ) -> Result<(), ProgramError> {
         // such a network comes first, and `take` never takes the first one
         if let Some(block) = self.clip.ipv4_beside(found) {
             of_list(self.list.push(BlockKind::Ipv4, block, out))?;
@@ -92,7 +99,12 @@ impl NetworkSink for Blocks<'_> {
         of_list(self.list.push(kind, block, out))
     }
 
-    fn finish<O: Write>(&mut self, is_whole: bool, out: &mut O) -> Result<(), ProgramError> {
+    /// Writes what comes after the last network. Where a network could not be read, the list is not whole.
+    pub(crate) fn finish<O: Write>(
+        &mut self,
+        is_whole: bool,
+        out: &mut O,
+    ) -> Result<(), ProgramError> {
         end_list(&mut self.list, self.may_be_empty, is_whole, out)
     }
 }

@@ -1,11 +1,11 @@
-//! The chosen networks of a range, with what their records have or as the fewest blocks.
+//! The chosen networks of a range of a database, written as a list while they come.
 ghost use Rattle.std.specs.Prelude.{◌≡◌, IfOk};
 ghost use Rattle.mmdb_reader.specs.Found.{section_asked};
 ghost use Rattle.mmdb_cmd_export.specs.Chosen.{section_of, IsFor, IsForAll};
 
-use crate::gathering::AddressGathering;
-use crate::networks::{Gathered, MOST_NAMED};
-use crate::sink::{NetworkSink, kind_of};
+use crate::blocks::Blocks;
+use crate::clip::kind_of;
+use crate::reports::MOST_NAMED;
 use mmdb_blocks::Kinds;
 use mmdb_console::{Console, Pace, Passed, ProgramError, Where};
 use mmdb_layout::{Choice, Found};
@@ -21,11 +21,11 @@ const STEP: u64 = 1_024;
 
 /// An export of the chosen networks.
 #[derive(Drop)]
-pub(crate) struct Export<'a, 'r, W: NetworkSink> {
+pub(crate) struct Export<'a, 'r> {
     /// Which networks are chosen, of the one database that they are of. None: all.
     choice: Option<Choice<'a>>,
     kinds: Kinds,
-    pub(crate) sink: W,
+    blocks: Blocks<'a>,
     /// What was found in the last networks. What is kept of their records is looked for side by side, since each look
     /// waits for memory.
     waiting: Vec<Found<'r>>,
@@ -38,20 +38,20 @@ pub(crate) struct Export<'a, 'r, W: NetworkSink> {
     ghost of_one: { IsForAll choice waiting.items },
 }
 
-impl<'a, 'r, W: NetworkSink> Export<'a, 'r, W> {
+impl<'a, 'r> Export<'a, 'r> {
     /// Of no network yet.
     pub(crate) fn new(
         alloc: Global,
         choice: Option<Choice<'a>>,
         kinds: Kinds,
-        sink: W,
-    ) -> Result<Export<'a, 'r, W>, AllocError>
+        blocks: Blocks<'a>,
+    ) -> Result<Export<'a, 'r>, AllocError>
         ensures { IfOk result (λ export. section_of export.choice ≡ section_of choice.entry) }
     {
         Ok(Export {
             choice,
             kinds,
-            sink,
+            blocks,
             waiting: Vec::with_capacity(alloc, MOST_WAITING)?,
             last: None,
             faults: 0,
@@ -108,7 +108,7 @@ impl<'a, 'r, W: NetworkSink> Export<'a, 'r, W> {
         if kept != Some(true) && !self.chooses(found)? {
             return Ok(());
         }
-        self.sink.put(found, out)
+        self.blocks.put(found, out)
     }
 
     // Reports a network that is not named and can't be read.
@@ -172,7 +172,7 @@ impl<'a, 'r, W: NetworkSink> Export<'a, 'r, W> {
     {
         match self.waiting.get(index) {
             Some(found) if !self.kinds.has(kind_of(found)) => Ok(true),
-            Some(found) if kept == Some(true) => self.sink.take(found, out),
+            Some(found) if kept == Some(true) => self.blocks.take(found, out),
             _ => Ok(false),
         }
     }
@@ -264,16 +264,6 @@ impl<'a, 'r, W: NetworkSink> Export<'a, 'r, W> {
         console: &mut Console<'_, O, E>,
     ) -> Result<(), ProgramError> {
         self.write_waiting(console)?;
-        self.sink.finish(self.faults == 0, console.out)
-    }
-}
-
-impl Export<'_, '_, AddressGathering> {
-    /// What was gathered.
-    pub(crate) fn into_gathered(self) -> Gathered {
-        Gathered {
-            gathering: self.sink,
-            faults: self.faults,
-        }
+        self.blocks.finish(self.faults == 0, console.out)
     }
 }

@@ -1,5 +1,4 @@
 //! What a list takes of networks where a range is asked for.
-use crate::sink::kind_of;
 use mmdb_blocks::{Block, BlockKind};
 use mmdb_layout::Found;
 use mmdb_reader::IpNetwork;
@@ -20,6 +19,12 @@ fn part_of_range(range: IpNetwork) -> (BlockKind, Block) {
         IpNetwork::V6(_) => BlockKind::Ipv6,
     };
     (kind, Block::of_network(range))
+}
+
+/// The kind of a network that was found.
+#[inline(always)]
+pub(crate) fn kind_of(found: &Found<'_>) -> BlockKind {
+    BlockKind::of_width(found.numbered_network().width)
 }
 
 /// The block of a network that was found.

@@ -1,16 +1,17 @@
 //! What changes in a list of networks.
 use crate::adjusted::{KINDS, push_blocks};
 use crate::blocks::of_list;
-use crate::gathering::{Adjustment, of_ranges};
+use crate::gathering::{Adjustment, Gathered, Listed, of_ranges};
 use crate::inputs::{ValueFile, read_adjustment, read_value_files};
-use crate::networks::{
-    Gathered, check_arguments, choice_of, gather, may_be_written, report_faults,
-};
+use crate::looked::looked_at;
+use crate::networks::check_arguments;
+use crate::reports::report_faults;
+use crate::several::Several;
 use crate::task::{ExportTask, Shape, export_task};
 use mmdb_arguments::ListDiffArguments;
 use mmdb_blocks::{Block, BlockKind, Kinds, List, RangesError, blocks_without};
 use mmdb_console::{Console, DIFFERENT, DONE, FAILED, Pace, ProgramError, note_range, range_of};
-use mmdb_layout::{Database, can_be_walked, open_database, range_asked};
+use mmdb_layout::{NamedDatabase, can_be_walked, open_database, range_asked};
 use mmdb_reader::IpNetwork;
 use std::alloc::Global;
 use std::env::Env;
@@ -68,8 +69,8 @@ fn changes_of(
     adjustment: &Adjustment,
     kind: BlockKind,
 ) -> Result<BlockChanges, RangesError> {
-    let old = adjustment.blocks_of(alloc, &old.gathering.chosen, kind)?;
-    let newer = adjustment.blocks_of(alloc, &newer.gathering.chosen, kind)?;
+    let old = adjustment.blocks_of(alloc, &old.addresses, kind)?;
+    let newer = adjustment.blocks_of(alloc, &newer.addresses, kind)?;
     let removed = blocks_without(alloc, &old, &newer)?;
     let added = blocks_without(alloc, &newer, &old)?;
     Ok(BlockChanges {
@@ -117,33 +118,42 @@ fn write_changes<O: Write>(
 }
 
 // The chosen addresses of the old database.
-fn gather_old<O: Write, E: Pace>(
-    database: &Database,
+fn gather_old<'d, O: Write, E: Pace>(
+    old: &'d [NamedDatabase<'d>],
     task: &ExportTask<'_>,
     console: &mut Console<'_, O, E>,
 ) -> Result<Gathered, ProgramError> {
-    let choice = choice_of(console.alloc, database, task.conditions.as_slice())?;
-    gather(database, task, choice, console)
+    let looked = looked_at(old, task)?;
+    let several = Several::new(console.alloc, &*old, looked.range)?;
+    let listed = Listed {
+        several: &several,
+        task,
+        kinds: looked.kinds,
+    };
+    listed.gather(console)
 }
 
 // The chosen addresses of the new database; none where no list may be written, which is reported.
-fn gather_new<O: Write, E: Pace>(
-    database: &Database,
+fn gather_new<'d, O: Write, E: Pace>(
+    newer: &'d [NamedDatabase<'d>],
     task: &ExportTask<'_>,
     console: &mut Console<'_, O, E>,
 ) -> Result<Option<Gathered>, ProgramError> {
-    let mut choice = choice_of(console.alloc, database, task.conditions.as_slice())?;
-    if !may_be_written(database, task, &mut choice, console)? {
-        return Ok(None);
-    }
-    Ok(Some(gather(database, task, choice, console)?))
+    let looked = looked_at(newer, task)?;
+    let several = Several::new(console.alloc, &*newer, looked.range)?;
+    let listed = Listed {
+        several: &several,
+        task,
+        kinds: looked.kinds,
+    };
+    listed.gather_met(console)
 }
 
 // Writes what changes between the lists of two databases, and answers the status. Where a network can't be read nothing is
 // written, since it may be in a list, and a block of it would be taken out.
-fn compare<O: Write, E: Pace>(
-    old: &Database,
-    newer: &Database,
+fn compare<'d, O: Write, E: Pace>(
+    old: &'d [NamedDatabase<'d>],
+    newer: &'d [NamedDatabase<'d>],
     task: &ExportTask<'_>,
     adjustment: &Adjustment,
     exit_code: bool,
@@ -194,6 +204,14 @@ fn compare_files<R: Files + Env, I: BufRead, O: Write, E: Pace>(
     {
         return Ok(FAILED);
     }
+    let old = [NamedDatabase {
+        name: arguments.old,
+        database: old,
+    }];
+    let newer = [NamedDatabase {
+        name: arguments.newer.file,
+        database: newer,
+    }];
     compare(
         &old,
         &newer,

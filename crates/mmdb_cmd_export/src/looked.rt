@@ -1,8 +1,8 @@
-//! Which networks of a database are looked at for a list.
+//! Which networks of databases are looked at for a list.
 use crate::clip::ipv4_part;
 use crate::task::{ExportTask, Shape};
 use mmdb_blocks::{Block, BlockKind, Kinds};
-use mmdb_layout::Database;
+use mmdb_layout::{Database, NamedDatabase};
 use mmdb_reader::{IpNetwork, MaxMindDbError};
 use std::net::{IpAddr, Ipv4Addr};
 
@@ -36,15 +36,17 @@ fn ipv4_range(range: Option<IpNetwork>) -> Result<Option<IpNetwork>, MaxMindDbEr
     }
 }
 
-/// What of a database is looked at: for a list of IPv4 alone, where lookups of its addresses find a network of IPv6, that
+/// What of databases is looked at: for a list of IPv4 alone, where lookups of its addresses find a network of IPv6, that
 /// network.
 pub(crate) fn looked_at(
-    database: &Database,
+    databases: &[NamedDatabase<'_>],
     task: &ExportTask<'_>,
 ) -> Result<LookedAt, MaxMindDbError> {
     let (range, kinds) = (task.range, task.kinds);
     if let (Shape::List(_), Kinds::One(BlockKind::Ipv4)) = (&task.shape, kinds)
-        && has_no_ipv4_tree(database)
+        && databases
+            .iter()
+            .any(|named| has_no_ipv4_tree(&named.database))
         && let Some(range) = ipv4_range(range)?
     {
         return Ok(LookedAt {

@@ -1,10 +1,17 @@
 //! What may be meant by what no network has, looked for in one pass for all of it.
 use crate::conditions::NamedValue;
-use mmdb_console::Similar;
+use crate::look::{FirstRecords, Look};
+use crate::several::Several;
+use mmdb_console::{ProgramError, Similar};
 use mmdb_json::compact;
-use mmdb_layout::{MOST_RECORDS, ReadAlong, RecordAt, Requirement, similar_path, split_condition};
+use mmdb_layout::{ReadAlong, RecordAt, Requirement, similar_path, split_condition};
+use mmdb_query::Answer;
+use mmdb_query_forms::Along;
 use mmdb_value::Value;
 use std::alloc::{AllocError, Global};
+
+/// In how many networks at most what was meant is looked for, as far as it is known that they have other records.
+const MOST_LOOKED_AT: usize = 1 << 16;
 
 /// What is looked for in place of one value.
 #[derive(Drop)]
@@ -17,11 +24,13 @@ struct Seeker<'t, 'a> {
 
 /// What is looked for in place of values.
 #[derive(Drop)]
-pub(crate) struct Seekers<'t, 'a, 'd> {
+pub(crate) struct Seekers<'t, 'a, 'x, 'd> {
     alloc: Global,
     seekers: Vec<Seeker<'t, 'a>>,
     /// The first records, among whose paths it is looked for another one.
-    records: Vec<RecordAt<'d>>,
+    first: FirstRecords<'x, 'd>,
+    /// How many networks were looked at.
+    count: usize,
 }
 
 // Offers a value: a text as it is, and any other as JSON.
@@ -110,13 +119,14 @@ pub(crate) fn path_in<'a>(named: &NamedValue<'a>) -> &'a str {
     }
 }
 
-impl<'t, 'a, 'd> Seekers<'t, 'a, 'd> {
-    /// Of nothing yet.
-    pub(crate) fn new(alloc: Global) -> Seekers<'t, 'a, 'd> {
+impl<'t, 'a, 'x, 'd> Seekers<'t, 'a, 'x, 'd> {
+    /// Of nothing yet, in these databases.
+    pub(crate) fn new(alloc: Global, several: &'x Several<'d>) -> Seekers<'t, 'a, 'x, 'd> {
         Seekers {
             alloc,
             seekers: Vec::new(alloc),
-            records: Vec::new(alloc),
+            first: FirstRecords::new(alloc, several),
+            count: 0,
         }
     }
 
@@ -136,27 +146,22 @@ impl<'t, 'a, 'd> Seekers<'t, 'a, 'd> {
         self.seekers.len()
     }
 
-    /// Offers the values that a record has, or several by the first that has one.
-    pub(crate) fn offer<R: ReadAlong>(&mut self, found: &R) -> Result<(), AllocError> {
-        for seeker in &mut self.seekers {
-            seeker.offer(self.alloc, found)?;
-        }
-        Ok(())
-    }
-
-    /// Notes where a record is, if it is one of the first.
-    pub(crate) fn keep(&mut self, section: &'d [u8], offset: usize) -> Result<(), AllocError> {
-        if self.records.len() < MOST_RECORDS {
-            self.records.push(RecordAt { section, offset })?;
-        }
-        Ok(())
-    }
-
     /// What may be meant by the value of a number.
     pub(crate) fn meant(&self, number: usize) -> Result<Option<String>, AllocError> {
         match self.seekers.get(number) {
-            Some(seeker) => seeker.meant(self.alloc, self.records.as_slice()),
+            Some(seeker) => seeker.meant(self.alloc, self.first.records()),
             None => Ok(None),
         }
+    }
+}
+
+impl Look for Seekers<'_, '_, '_, '_> {
+    fn look<A: Answer>(&mut self, answer: &A) -> Result<bool, ProgramError> {
+        self.first.add(answer)?;
+        for seeker in &mut self.seekers {
+            seeker.offer(self.alloc, &Along { answer })?;
+        }
+        self.count = self.count.saturating_add(1);
+        Ok(self.count < MOST_LOOKED_AT)
     }
 }

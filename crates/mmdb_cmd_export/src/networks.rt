@@ -7,21 +7,19 @@ use crate::adjusted::write_adjusted;
 use crate::asked::{AskedTexts, asked_texts};
 use crate::blocks::Blocks;
 use crate::chosen::Export;
-use crate::gathering::{AddressGathering, Adjustment};
+use crate::gathering::{Adjustment, Listed};
 use crate::inputs::{ValueFile, check_inputs, read_adjustment, read_value_files};
-use crate::looked::{LookedAt, looked_at};
-use crate::missing::are_values_met;
+use crate::looked::looked_at;
+use crate::reports::report_faults;
 use crate::rows::write_rows;
 use crate::several::Several;
-use crate::sink::NetworkSink;
-use crate::stretches::export_files;
 use crate::task::{ExportTask, Shape, export_task};
 use mmdb_arguments::{ExportArguments, NoRequest};
-use mmdb_blocks::{Kinds, Syntax};
-use mmdb_console::{Console, DONE, FAILED, Pace, ProgramError, note_range};
+use mmdb_blocks::Syntax;
+use mmdb_console::{Console, FAILED, Pace, ProgramError, note_range};
 use mmdb_layout::{
-    Choice, Condition, Database, NamedDatabase, Networks, can_be_walked, networks_in,
-    open_database, range_asked,
+    BesideFiles, Choice, Condition, Database, NamedDatabase, Networks, can_be_walked, networks_in,
+    open_database, open_named, range_asked,
 };
 use mmdb_reader::{IpNetwork, MaxMindDbError};
 use std::alloc::{AllocError, Global};
@@ -29,27 +27,11 @@ use std::env::Env;
 use std::io::{BufRead, Write};
 use std::rt::Files;
 
-/// How many networks are named that can't be read. The others are counted.
-pub(crate) const MOST_NAMED: u64 = 10;
-
-/// Reports how many networks could not be read, and answers the status.
-pub(crate) fn report_faults<O: Write, E: Pace>(
-    faults: u64,
-    console: &mut Console<'_, O, E>,
-) -> Result<u8, ProgramError> {
-    if faults == 0 {
-        return Ok(DONE);
-    }
-    let text: String = format!(in console.alloc; "mmdb: {faults} networks could not be read\n")?;
-    console.note(Ok(text));
-    Ok(FAILED)
-}
-
 // Reports a network that can't be read.
 #[inline(never)]
-fn report_unread<W: NetworkSink, O: Write, E: Pace>(
+fn report_unread<O: Write, E: Pace>(
     error: MaxMindDbError,
-    export: &mut Export<'_, '_, W>,
+    export: &mut Export<'_, '_>,
     console: &mut Console<'_, O, E>,
 ) -> Result<(), ProgramError>
     ensures { section_of export.new.choice ≡ section_of export.old.choice }
@@ -60,9 +42,9 @@ fn report_unread<W: NetworkSink, O: Write, E: Pace>(
 }
 
 // Writes the chosen networks, and what comes after them.
-fn export_all<'r, W: NetworkSink, O: Write, E: Pace>(
+fn export_all<'r, O: Write, E: Pace>(
     networks: Networks<'r>,
-    export: &mut Export<'_, 'r, W>,
+    export: &mut Export<'_, 'r>,
     console: &mut Console<'_, O, E>,
 ) -> Result<(), ProgramError>
     requires { IsFor export.old.choice (section_walked networks) }
@@ -76,8 +58,8 @@ fn export_all<'r, W: NetworkSink, O: Write, E: Pace>(
     export.finish(console)
 }
 
-/// The choice of networks of a database by these conditions. None where there are none, and all networks are chosen.
-pub(crate) fn choice_of<'a>(
+// The choice of networks of a database by these conditions. None where there are none, and all networks are chosen.
+fn choice_of<'a>(
     alloc: Global,
     database: &'a Database,
     conditions: &'a [Condition<'a>],
@@ -90,171 +72,144 @@ pub(crate) fn choice_of<'a>(
     Ok(Some(Choice::new(alloc, database.data_section(), conditions)?))
 }
 
-// Writes the chosen networks to a list, reports how many could not be read, and answers the status.
-fn export_with<'a, 'r, W: NetworkSink, O: Write, E: Pace>(
-    networks: Networks<'r>,
-    export: Export<'a, 'r, W>,
-    console: &mut Console<'_, O, E>,
-) -> Result<u8, ProgramError>
-    requires { IsFor export.choice (section_walked networks) }
-{
-    let mut export = export;
-    let exported = export_all(networks, &mut export, console);
-    let faults = export.faults;
-    drop(export);
-    exported?;
-    report_faults(faults, console)
-}
-
-// Writes the list of the networks that are chosen, and answers the status.
-fn export_chosen<'a, 'r, O: Write, E: Pace>(
-    task: &'a ExportTask<'a>,
+// Writes the chosen networks of a database as a list, reports how many could not be read, and answers the status.
+fn export_chosen<'a, O: Write, E: Pace>(
+    database: &'a Database,
+    listed: &Listed<'a, 'a>,
     syntax: Syntax<'a>,
-    networks: Networks<'r>,
-    looked: LookedAt,
-    choice: Option<Choice<'a>>,
     console: &mut Console<'_, O, E>,
-) -> Result<u8, ProgramError>
-    requires { IsFor choice (section_walked networks) }
-{
+) -> Result<u8, ProgramError> {
+    let (task, range) = (listed.task, listed.several.range());
     let may_be_empty = task.allow_empty || task.may_lack();
-    let blocks = Blocks::new(
-        console.alloc,
-        syntax,
-        task.kinds,
-        looked.range,
-        may_be_empty,
-    )?;
-    let export = Export::new(console.alloc, choice, looked.kinds, blocks)?;
-    export_with(networks, export, console)
-}
-
-/// The addresses of the chosen networks, and how many networks could not be read.
-#[derive(Drop)]
-pub(crate) struct Gathered {
-    pub(crate) gathering: AddressGathering,
-    pub(crate) faults: u64,
-}
-
-/// Gathers the addresses of the chosen networks, and reports each network that can't be read.
-pub(crate) fn gather<'a, O: Write, E: Pace>(
-    database: &Database,
-    task: &'a ExportTask<'a>,
-    choice: Option<Choice<'a>>,
-    console: &mut Console<'_, O, E>,
-) -> Result<Gathered, ProgramError>
-    requires { IsFor choice (data_section database.now) }
-{
-    let looked = looked_at(database, task)?;
-    let networks = networks_in(console.alloc, database, looked.range)?;
-    let sink = AddressGathering::new(console.alloc, looked.range);
-    let mut export = Export::new(console.alloc, choice, looked.kinds, sink)?;
+    let choice = choice_of(console.alloc, database, task.conditions.as_slice())?;
+    let networks = networks_in(console.alloc, database, range)?;
+    let blocks = Blocks::new(console.alloc, syntax, task.kinds, range, may_be_empty)?;
+    let mut export = Export::new(console.alloc, choice, listed.kinds, blocks)?;
     export_all(networks, &mut export, console)?;
-    Ok(export.into_gathered())
+    report_faults(export.faults, console)
 }
 
 // Writes the list of the chosen networks with what is added and without what is taken away, and answers the status.
-fn export_adjusted<'a, O: Write, E: Pace>(
-    database: &Database,
-    task: &'a ExportTask<'a>,
-    syntax: Syntax<'a>,
+fn export_adjusted<O: Write, E: Pace>(
+    listed: &Listed<'_, '_>,
+    syntax: Syntax<'_>,
     adjustment: &Adjustment,
-    choice: Option<Choice<'a>>,
     console: &mut Console<'_, O, E>,
-) -> Result<u8, ProgramError>
-    requires { IsFor choice (data_section database.now) }
-{
-    let gathered = gather(database, task, choice, console)?;
-    let (chosen, faults) = (&gathered.gathering.chosen, gathered.faults);
-    let is_whole = faults == 0;
+) -> Result<u8, ProgramError> {
+    let gathered = listed.gather(console)?;
     write_adjusted(
         console.alloc,
-        task,
+        listed.task,
         syntax,
-        chosen,
+        &gathered.addresses,
         adjustment,
-        is_whole,
+        gathered.faults == 0,
         console.out,
     )?;
-    drop(gathered);
-    report_faults(faults, console)
+    report_faults(gathered.faults, console)
 }
 
-/// Whether a list may be written by these conditions.
-pub(crate) fn may_be_written<O: Write, E: Pace>(
-    database: &Database,
-    task: &ExportTask<'_>,
-    choice: &mut Option<Choice<'_>>,
-    console: &mut Console<'_, O, E>,
-) -> Result<bool, ProgramError>
-    requires { IsFor choice.old (data_section database.now) }
-    ensures { section_of choice.new ≡ section_of choice.old }
-{
-    match choice {
-        Some(choice) => are_values_met(database, task, choice, console),
-        None => Ok(true),
-    }
-}
-
-// Writes the list of the chosen networks of a database, reports each that can't be read, and answers the status.
-fn export_list<'a, O: Write, E: Pace>(
-    database: &Database,
-    task: &'a ExportTask<'a>,
-    syntax: Syntax<'a>,
+// Writes the list of the chosen networks of databases, reports each that can't be read, and answers the status.
+fn export_list<O: Write, E: Pace>(
+    listed: &Listed<'_, '_>,
+    syntax: Syntax<'_>,
     adjustment: Option<&Adjustment>,
     console: &mut Console<'_, O, E>,
 ) -> Result<u8, ProgramError> {
-    let mut choice = choice_of(console.alloc, database, task.conditions.as_slice())?;
-    if !may_be_written(database, task, &mut choice, console)? {
+    if !listed.may_be_written(console)? {
         return Ok(FAILED);
     }
     if let Some(adjustment) = adjustment {
-        return export_adjusted(database, task, syntax, adjustment, choice, console);
+        return export_adjusted(listed, syntax, adjustment, console);
     }
-    let looked = looked_at(database, task)?;
-    let networks = networks_in(console.alloc, database, looked.range)?;
-    export_chosen(task, syntax, networks, looked, choice, console)
+    match listed.several.alone() {
+        Some(database) => export_chosen(database, listed, syntax, console),
+        None => export_adjusted(
+            listed,
+            syntax,
+            &Adjustment::of_nothing(console.alloc),
+            console,
+        ),
+    }
 }
 
-// Writes the rows or the list of a database, and answers the status.
-fn export_named<O: Write, E: Pace>(
-    named: &[NamedDatabase<'_>; 1],
+// Writes the rows or the list of databases, and answers the status.
+fn export_databases<'d, O: Write, E: Pace>(
+    databases: &'d [NamedDatabase<'d>],
     task: &ExportTask<'_>,
     adjustment: Option<&Adjustment>,
     console: &mut Console<'_, O, E>,
 ) -> Result<u8, ProgramError> {
-    match &task.shape {
-        Shape::Rows(layout) => {
-            let several = Several::new(console.alloc, named, task.range)?;
-            write_rows(&several, task, layout, console)
-        }
-        Shape::List(syntax) => {
-            export_list(&named[0].database, task, *syntax, adjustment, console)
-        }
-    }
+    let looked = looked_at(databases, task)?;
+    let several = Several::new(console.alloc, &*databases, looked.range)?;
+    let syntax = match &task.shape {
+        Shape::Rows(layout) => return write_rows(&several, task, layout, console),
+        Shape::List(syntax) => *syntax,
+    };
+    let listed = Listed {
+        several: &several,
+        task,
+        kinds: looked.kinds,
+    };
+    export_list(&listed, syntax, adjustment, console)
 }
 
-// Opens a file and writes its chosen networks, and answers the status.
-fn export_file<R: Files + Env, O: Write, E: Pace>(
-    rt: &R,
-    file: &str,
+// Writes the rows or the list of databases in the range in which they are asked, and answers the status.
+fn export_opened<O: Write, E: Pace>(
+    databases: &[NamedDatabase<'_>],
     task: ExportTask<'_>,
     adjustment: Option<&Adjustment>,
     console: &mut Console<'_, O, E>,
 ) -> Result<u8, ProgramError> {
-    let Some(database) = open_database(rt, file, console) else {
-        return Ok(FAILED);
-    };
+    let mut all = Vec::with_capacity(console.alloc, databases.len())?;
+    for named in databases {
+        all.push(&named.database)?;
+    }
     let mut task = task;
-    task.range = range_asked(&[&database], task.range, console)?;
-    if !can_be_walked(&database, file, task.range, console)? {
+    task.range = range_asked(all.as_slice(), task.range, console)?;
+    drop(all);
+    for named in databases {
+        if !can_be_walked(&named.database, named.name, task.range, console)? {
+            return Ok(FAILED);
+        }
+    }
+    export_databases(databases, &task, adjustment, console)
+}
+
+// Opens a file, and writes its rows or its list.
+fn export_file<R: Files + Env, O: Write, E: Pace>(
+    rt: &R,
+    name: &str,
+    task: ExportTask<'_>,
+    adjustment: Option<&Adjustment>,
+    console: &mut Console<'_, O, E>,
+) -> Result<u8, ProgramError> {
+    match open_database(rt, name, console) {
+        Some(database) => {
+            export_opened(
+                &[NamedDatabase { name, database }],
+                task,
+                adjustment,
+                console,
+            )
+        }
+        None => Ok(FAILED),
+    }
+}
+
+// Opens files, and writes their rows or their list.
+fn export_files<R: Files + Env, O: Write, E: Pace>(
+    rt: &R,
+    names: &[&str],
+    task: ExportTask<'_>,
+    adjustment: Option<&Adjustment>,
+    console: &mut Console<'_, O, E>,
+) -> Result<u8, ProgramError> {
+    let databases = open_named(rt, names, BesideFiles::Networks, true, console)?;
+    if databases.has_failed() {
         return Ok(FAILED);
     }
-    let named = [NamedDatabase {
-        name: file,
-        database,
-    }];
-    export_named(&named, &task, adjustment, console)
+    export_opened(databases.open.as_slice(), task, adjustment, console)
 }
 
 // What is added to a list and taken away, if anything is; none where a file can't be read, which is reported.

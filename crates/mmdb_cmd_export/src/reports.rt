@@ -1,20 +1,22 @@
-//! Reports of networks that can't be written as rows.
-use crate::networks::MOST_NAMED;
+//! Reports of networks that can't be written.
 use crate::several::Several;
-use mmdb_console::{Console, Pace, Passed, ProgramError, Where};
+use mmdb_console::{Console, DONE, FAILED, Pace, Passed, ProgramError, Where};
 use mmdb_layout::Condition;
 use mmdb_query::{Answer, Fault, Faults, UnreadLeaf};
-use mmdb_query_forms::{ColumnSource, Columns};
+use mmdb_query_forms::{Column, ColumnSource};
 use mmdb_reader::{IpNetwork, MaxMindDbError, PathElement};
 use std::alloc::{AllocError, Global};
-use std::io;
+use std::io::{self, Write};
 use std::net::{IpAddr, Ipv4Addr};
 
-/// What rows ask of the records of a network, in this order.
+/// How many networks are named that can't be read. The others are counted.
+pub(crate) const MOST_NAMED: u64 = 10;
+
+/// What is asked of the records of a network, in this order.
 #[derive(Clone, Copy)]
 pub(crate) struct AskedOfRecords<'x> {
     pub(crate) conditions: &'x [Condition<'x>],
-    pub(crate) columns: &'x Columns<'x>,
+    pub(crate) columns: &'x [Column<'x>],
 }
 
 // The place of the first database whose record can't be read along a path, where the value there is asked of them in turn.
@@ -66,7 +68,6 @@ impl AskedOfRecords<'_> {
         count: usize,
     ) -> Option<usize> {
         self.columns
-            .columns
             .iter()
             .find_map(|column| match column.source() {
                 ColumnSource::Path(path) => fault_along(alloc, answer, count, path.as_slice()),
@@ -81,7 +82,7 @@ impl AskedOfRecords<'_> {
     }
 }
 
-/// Reports of networks that can't be written as rows, each once for each database.
+/// Reports of networks that can't be written, each once for each database.
 #[derive(Drop)]
 pub(crate) struct Reports<'x, 'd, 'c, E: Pace> {
     console: Console<'c, io::Sink, E>,
@@ -208,6 +209,19 @@ impl<'x, 'd, 'c, E: Pace> Reports<'x, 'd, 'c, E> {
         };
         self.report_at(leaf.place, what, error)
     }
+}
+
+/// Reports how many networks could not be read, and answers the status.
+pub(crate) fn report_faults<O: Write, E: Pace>(
+    faults: u64,
+    console: &mut Console<'_, O, E>,
+) -> Result<u8, ProgramError> {
+    if faults == 0 {
+        return Ok(DONE);
+    }
+    let text: String = format!(in console.alloc; "mmdb: {faults} networks could not be read\n")?;
+    console.note(Ok(text));
+    Ok(FAILED)
 }
 
 impl<E: Pace> Faults for Reports<'_, '_, '_, E> {

@@ -6,17 +6,15 @@ ghost use Rattle.mmdb_query.specs.Walks.{section_walked};
 ghost use Rattle.mmdb_query_forms.specs.Fitting.{ScratchFits};
 ghost use Rattle.mmdb_cmd_export.specs.Written.{AreWritten, EndRows};
 
-use crate::absent_paths::{note_absent_along, note_absent_paths};
-use crate::networks::report_faults;
-use crate::reports::{AskedOfRecords, Reports};
+use crate::absent_paths::note_absent_paths;
+use crate::look::FirstRecords;
+use crate::reports::{AskedOfRecords, Reports, report_faults};
 use crate::several::Several;
 use crate::task::ExportTask;
+use mmdb_blocks::Kinds;
 use mmdb_compare::AskedDatabase;
 use mmdb_console::{Console, FAILED, Pace, ProgramError, line_of};
-use mmdb_layout::{
-    ChosenFields, Database, Layout, MOST_RECORDS, NETWORK, RecordAt, absent_text, keys_of,
-    networks_in,
-};
+use mmdb_layout::{ChosenFields, Database, Layout, NETWORK, absent_text, keys_of, networks_in};
 use mmdb_query::{Answer, Faults, Many, One, Part, QueryError, Rows, Template, Walk, export_rows};
 use mmdb_query_forms::{AllOf, Column, ColumnScratch, ColumnSource, Columns, RowForm};
 use mmdb_reader::MaxMindDbError;
@@ -32,8 +30,8 @@ const MOST_OF_RECORDS: usize = 4 << 20;
 /// How many fields are named that no record has.
 const MOST_NAMED: usize = 10;
 
-/// What a query answered, as the program reports it.
-fn of_query(error: QueryError) -> ProgramError {
+//// What a query answered, as the program reports it.
+pub(crate) fn of_query(error: QueryError) -> ProgramError {
     match error {
         QueryError::Memory => ProgramError::Memory,
         QueryError::Write(error) => ProgramError::Write(error),
@@ -93,41 +91,6 @@ fn columns_of<'a>(
     Ok(Columns { form, columns })
 }
 
-// Adds where the records of a network are, as long as they are few.
-fn add_records<'d, A: Answer>(
-    several: &Several<'d>,
-    answer: &A,
-    records: &mut Vec<RecordAt<'d>>,
-) -> Result<(), AllocError> {
-    for place in 0..several.asked_count() {
-        match answer.offset(place) {
-            Some(offset) if records.len() < MOST_RECORDS => {
-                let section = several.section_at(place);
-                records.push(RecordAt { section, offset })?;
-            }
-            _ => {}
-        }
-    }
-    Ok(())
-}
-
-// Where the first records of a walk are.
-fn first_records<'d, W: Walk>(
-    alloc: Global,
-    several: &Several<'d>,
-    walk: &mut W,
-) -> Result<Vec<RecordAt<'d>>, AllocError> {
-    let mut records = Vec::new(alloc);
-    while records.len() < MOST_RECORDS {
-        match walk.next_item() {
-            Some(Ok(answer)) => add_records(several, &answer, &mut records)?,
-            Some(Err(_error)) => {}
-            None => break,
-        }
-    }
-    Ok(records)
-}
-
 // What rows are written of, and how.
 #[derive(Clone, Copy)]
 struct RowTask<'x, 'd> {
@@ -174,7 +137,7 @@ impl<'x, 'd> RowTask<'x, 'd> {
     {
         let asked = AskedOfRecords {
             conditions: self.task.conditions.as_slice(),
-            columns: self.columns,
+            columns: self.columns.columns.as_slice(),
         };
         let mut nowhere = io::sink();
         let errors = Console::new(
@@ -209,7 +172,7 @@ impl<'x, 'd> RowTask<'x, 'd> {
         let mut part = Part {
             walk,
             kinds: self.task.kinds,
-            range: self.several.alone().and(self.task.range),
+            range: self.several.alone().and(self.several.range()),
         };
         self.report_rows(&mut part, rows, console)
     }
@@ -236,7 +199,7 @@ impl<'x, 'd> RowTask<'x, 'd> {
         database: &'x Database,
         console: &mut Console<'_, O, E>,
     ) -> Result<u8, ProgramError> {
-        let walk = One::new(networks_in(self.alloc, database, self.task.range)?);
+        let walk = One::new(networks_in(self.alloc, database, self.several.range())?);
         self.put_header(console)?;
         let mut scratch = ColumnScratch::new(self.alloc, self.columns, 1, MOST_OF_RECORDS)?;
         scratch.add_section(database.data_section())?;
@@ -291,18 +254,6 @@ impl<'x, 'd> RowTask<'x, 'd> {
         }
     }
 
-    // Where the first records in the range are.
-    fn first_records(&self) -> Result<Vec<RecordAt<'x>>, MaxMindDbError> {
-        if let Some(database) = self.several.alone() {
-            let networks = networks_in(self.alloc, database, self.task.range)?;
-            return Ok(first_records(self.alloc, self.several, &mut One::new(networks))?);
-        }
-        match Many::new(self.alloc, self.several.asked()) {
-            Ok(mut walk) => Ok(first_records(self.alloc, self.several, &mut walk)?),
-            Err((_, error)) => Err(error),
-        }
-    }
-
     // Says of the fields of these names that no record has them, after what was written.
     fn note_fields<O: Write, E: Pace>(
         &self,
@@ -313,12 +264,11 @@ impl<'x, 'd> RowTask<'x, 'd> {
             return Ok(());
         }
         console.flush()?;
-        let records = match self.first_records() {
-            Ok(records) => records,
-            Err(_) => Vec::new(self.alloc),
-        };
+        let mut first = FirstRecords::new(self.alloc, self.several);
+        // where they can't be looked at, no other field is named
+        let _ = self.several.look(self.alloc, Kinds::Both, &mut first);
         for name in names.iter().take(MOST_NAMED) {
-            let text = absent_text(self.alloc, "no record", *name, records.as_slice());
+            let text = absent_text(self.alloc, "no record", *name, first.records());
             console.note(line_of(self.alloc, text));
         }
         let more = names.len().saturating_sub(MOST_NAMED);
@@ -348,10 +298,7 @@ impl<'x, 'd> RowTask<'x, 'd> {
         scratch: &ColumnScratch<'_>,
         console: &mut Console<'_, O, E>,
     ) -> Result<(), ProgramError> {
-        match self.several.alone() {
-            Some(database) => note_absent_paths(database, self.task, console)?,
-            None => note_absent_along(self.several, self.task, console)?,
-        }
+        note_absent_paths(self.several, self.task, console)?;
         let absent = self.absent_fields(scratch)?;
         self.note_fields(absent.as_slice(), console)
     }

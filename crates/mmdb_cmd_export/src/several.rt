@@ -2,23 +2,18 @@
 ghost use Rattle.std.specs.Prelude.{◌≡◌};
 
 use crate::clip::ipv4_part;
+use crate::look::{Look, look_along};
 use mmdb_blocks::{Block, BlockKind, Kinds};
-use mmdb_compare::{AskedDatabase, Together, TogetherStretch};
+use mmdb_compare::AskedDatabase;
 use mmdb_console::ProgramError;
-use mmdb_layout::{Database, Found, NamedDatabase, ReadAlong};
-use mmdb_reader::{IpNetwork, MaxMindDbError, PathElement};
-use mmdb_value::Value;
+use mmdb_layout::{Database, NamedDatabase, networks_in};
+use mmdb_query::{Many, One};
+use mmdb_reader::{IpNetwork, MaxMindDbError};
 use std::alloc::{AllocError, Global};
 use std::net::{IpAddr, Ipv4Addr, Ipv6Addr};
 
 /// The version of addresses of a database with IPv6.
 const IPV6: u16 = 6;
-
-/// What each of several databases has in a block, in their order: none where it has no record there.
-pub(crate) type Answers<'r> = Vec<Option<Found<'r>>>;
-
-/// Where the record is that each of several databases has in a block, in their order.
-pub(crate) type Offsets = Vec<Option<usize>>;
 
 /// Databases that are asked side by side.
 #[derive(Drop)]
@@ -28,6 +23,8 @@ pub(crate) struct Several<'d> {
     asked: Vec<AskedDatabase<'d, Vec<u8>>>,
     /// The places of those among all.
     places: Vec<usize>,
+    /// The range that was asked for, if one was.
+    range: Option<IpNetwork>,
 }
 
 // Whether a database has networks of IPv6.
@@ -66,64 +63,18 @@ fn range_in(database: &Database, range: IpNetwork) -> Result<Option<IpNetwork>, 
     }
 }
 
-/// The kind of the addresses of a stretch.
-pub(crate) fn kind_of_stretch(stretch: TogetherStretch) -> BlockKind {
-    if stretch.is_ipv4 {
-        BlockKind::Ipv4
-    } else {
-        BlockKind::Ipv6
-    }
-}
-
-/// What a stretch of IPv6 has of the addresses of IPv4: lookups of them find what it has.
-pub(crate) fn ipv4_beside(stretch: TogetherStretch) -> Option<Block> {
-    if stretch.is_ipv4 {
-        return None;
-    }
-    ipv4_part(stretch.block)
-}
-
-/// Whether a list of some kinds has addresses of a stretch, if that is chosen.
-pub(crate) fn is_listed(kinds: Kinds, stretch: TogetherStretch) -> bool {
-    kinds.has(kind_of_stretch(stretch))
-        || kinds.has(BlockKind::Ipv4) && ipv4_beside(stretch).is_some()
-}
-
-/// The network of a stretch.
-pub(crate) fn network_of_stretch(stretch: TogetherStretch) -> Result<IpNetwork, ProgramError> {
-    match kind_of_stretch(stretch).network_of(stretch.block) {
-        Ok(network) => Ok(network),
-        Err(_) => Err(ProgramError::OutOfOrder),
-    }
-}
-
-/// The place among answers of the one that can't be read along a path, where the value there is asked of them in turn.
-pub(crate) fn fault_along(
-    alloc: Global,
-    answers: &Answers<'_>,
-    path: &[PathElement<'_>],
-) -> Option<usize> {
-    for (place, answer) in answers.iter().enumerate() {
-        let Some(found) = answer else {
-            continue;
-        };
-        let value: Result<Option<Value<'_>>, MaxMindDbError> = found.read_along(alloc, path);
-        match value {
-            Ok(None) => {}
-            Ok(Some(_)) => return None,
-            Err(_) => return Some(place),
-        }
-    }
-    None
-}
-
 impl<'d> Several<'d> {
     // Databases, of which none is asked.
-    fn of_none(alloc: Global, databases: &'d [NamedDatabase<'d>]) -> Several<'d> {
+    fn of_none(
+        alloc: Global,
+        databases: &'d [NamedDatabase<'d>],
+        range: Option<IpNetwork>,
+    ) -> Several<'d> {
         Several {
             databases,
             asked: Vec::new(alloc),
             places: Vec::new(alloc),
+            range,
         }
     }
 
@@ -145,12 +96,12 @@ impl<'d> Several<'d> {
         databases: &'d [NamedDatabase<'d>],
         range: Option<IpNetwork>,
     ) -> Result<Several<'d>, MaxMindDbError> {
+        let mut several = Several::of_none(alloc, databases, range);
         let range = match range {
             Some(range) => range,
             None => all_of(databases)?,
         };
         let is_mixed = have_ipv6(databases);
-        let mut several = Several::of_none(alloc, databases);
         for (place, named) in databases.iter().enumerate() {
             let own = if is_mixed {
                 range_in(&named.database, range)?
@@ -164,30 +115,26 @@ impl<'d> Several<'d> {
         Ok(several)
     }
 
-    /// The databases from the first address on. An `Err` has the place of one among those that are asked.
-    pub(crate) fn begin(
+    /// The range that was asked for, if one was.
+    pub(crate) fn range(&self) -> Option<IpNetwork> {
+        self.range
+    }
+
+    /// Looks at the networks of these kinds, as far as it is not known that their records were looked at.
+    pub(crate) fn look<L: Look>(
         &self,
         alloc: Global,
-    ) -> Result<Together<'d, Vec<u8>>, (usize, MaxMindDbError)> {
-        Together::new(alloc, self.asked.as_slice())
-    }
-
-    /// Of no stretch yet, with room for those of all that are asked.
-    pub(crate) fn no_offsets(&self, alloc: Global) -> Result<Offsets, AllocError> {
-        Vec::with_capacity(alloc, self.asked.len())
-    }
-
-    /// Puts where the records of the last stretch are in place of others.
-    pub(crate) fn put_offsets(
-        &self,
-        together: &Together<'_, Vec<u8>>,
-        offsets: &mut Offsets,
-    ) -> Result<(), AllocError> {
-        offsets.clear();
-        for place in 0..self.asked.len() {
-            offsets.push(together.offset(place))?;
+        kinds: Kinds,
+        looker: &mut L,
+    ) -> Result<(), ProgramError> {
+        if let Some(database) = self.alone() {
+            let networks = networks_in(alloc, database, self.range)?;
+            return look_along(alloc, One::new(networks), kinds, looker);
         }
-        Ok(())
+        match Many::new(alloc, self.asked.as_slice()) {
+            Ok(walk) => look_along(alloc, walk, kinds, looker),
+            Err((_, error)) => Err(ProgramError::from(error)),
+        }
     }
 
     /// All databases.

@@ -1,0 +1,102 @@
+//! Networks that are looked at before or after they are written.
+use crate::several::Several;
+use mmdb_blocks::Kinds;
+use mmdb_cache::Cache;
+use mmdb_console::ProgramError;
+use mmdb_layout::{MOST_RECORDS, RecordAt};
+use mmdb_query::{Answer, Part, Walk};
+use mmdb_reader::MaxMindDbError;
+use std::alloc::{AllocError, Global};
+
+/// What of records was looked at is known of so many at most.
+const MOST_KNOWN: usize = 8192;
+
+/// Looks at what databases have in networks.
+pub(crate) trait Look {
+    /// Looks at a network. Whether to go on.
+    fn look<A: Answer>(&mut self, answer: &A) -> Result<bool, ProgramError>;
+}
+
+// Whether the records of a network were looked at, as far as that is known; now they were.
+fn is_known<A: Answer>(known: &mut Cache<()>, answer: &A) -> bool {
+    let Some(key) = answer.key() else {
+        return false;
+    };
+    if known.get(key).is_some() {
+        return true;
+    }
+    known.put(key, (), 1);
+    false
+}
+
+/// Looks at the networks of a walk that are of these kinds, as far as it is not known that their records were looked at. Those that
+/// can't be read are passed.
+pub(crate) fn look_along<W: Walk + Drop, L: Look>(
+    alloc: Global,
+    walk: W,
+    kinds: Kinds,
+    looker: &mut L,
+) -> Result<(), ProgramError> {
+    let mut part = Part {
+        walk,
+        kinds,
+        range: None,
+    };
+    let mut known = Cache::new(alloc, MOST_KNOWN);
+    for _ in 0..u64::MAX {
+        match part.next_item() {
+            Some(Ok(answer)) => {
+                if !is_known(&mut known, &answer) && !looker.look(&answer)? {
+                    return Ok(());
+                }
+            }
+            Some(Err(MaxMindDbError::Memory)) => return Err(ProgramError::Memory),
+            Some(Err(_error)) => {}
+            None => return Ok(()),
+        }
+    }
+    Ok(())
+}
+
+/// Where the first records are that were looked at.
+#[derive(Drop)]
+pub(crate) struct FirstRecords<'x, 'd> {
+    several: &'x Several<'d>,
+    records: Vec<RecordAt<'d>>,
+}
+
+impl<'x, 'd> FirstRecords<'x, 'd> {
+    /// None yet, of these databases.
+    pub(crate) fn new(alloc: Global, several: &'x Several<'d>) -> FirstRecords<'x, 'd> {
+        FirstRecords {
+            several,
+            records: Vec::new(alloc),
+        }
+    }
+
+    /// Adds where the records of a network are, as long as they are few.
+    pub(crate) fn add<A: Answer>(&mut self, answer: &A) -> Result<(), AllocError> {
+        for place in 0..self.several.asked_count() {
+            match answer.offset(place) {
+                Some(offset) if self.records.len() < MOST_RECORDS => {
+                    let section = self.several.section_at(place);
+                    self.records.push(RecordAt { section, offset })?;
+                }
+                _ => {}
+            }
+        }
+        Ok(())
+    }
+
+    /// Those that were looked at.
+    pub(crate) fn records(&self) -> &[RecordAt<'d>] {
+        self.records.as_slice()
+    }
+}
+
+impl Look for FirstRecords<'_, '_> {
+    fn look<A: Answer>(&mut self, answer: &A) -> Result<bool, ProgramError> {
+        self.add(answer)?;
+        Ok(self.records.len() < MOST_RECORDS)
+    }
+}
