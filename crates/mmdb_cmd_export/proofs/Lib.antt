@@ -1,1 +1,2 @@
 mod ChosenLaws
+mod GatheredLaws

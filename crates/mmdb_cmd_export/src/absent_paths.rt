@@ -45,14 +45,14 @@ fn presence_at<'a>(alloc: Global, path: &'a str) -> Result<Condition<'a>, NoRequ
 
 // Looks for a record that has a value at a path. What can't be read was reported.
 #[derive(Drop)]
-struct PathLook<'x, 'd, 'c> {
+struct PathLook<'d, 'c> {
     alloc: Global,
     condition: Condition<'c>,
     is_met: bool,
-    first: FirstRecords<'x, 'd>,
+    first: FirstRecords<'d>,
 }
 
-impl Look for PathLook<'_, '_, '_> {
+impl Look for PathLook<'_, '_> {
     fn look<A: Answer>(&mut self, answer: &A) -> Result<bool, ProgramError> {
         self.first.add(answer)?;
         let holds = self.condition.holds(self.alloc, &Along { answer });
@@ -61,7 +61,7 @@ impl Look for PathLook<'_, '_, '_> {
     }
 }
 
-impl PathLook<'_, '_, '_> {
+impl PathLook<'_, '_> {
     // Says of a path that no record has it, unless there is none.
     fn note<O: Write, E: Write>(
         &self,
@@ -89,7 +89,7 @@ pub(crate) fn note_absent_path<O: Write, E: Write>(
         alloc: console.alloc,
         condition: presence_at(console.alloc, path)?,
         is_met: false,
-        first: FirstRecords::new(console.alloc, several),
+        first: FirstRecords::new(console.alloc, several)?,
     };
     match several.look(console.alloc, Kinds::Both, &mut looked) {
         Ok(()) => looked.note(path, console),

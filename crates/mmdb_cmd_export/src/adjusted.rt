@@ -1,9 +1,10 @@
 //! Lists of chosen networks with blocks that are added and without blocks that are taken away.
 use crate::blocks::{end_list, of_list};
-use crate::gathering::{Addresses, Adjustment, of_ranges};
+use crate::gathering::{Adjustment, of_ranges};
 use crate::task::ExportTask;
 use mmdb_blocks::{Block, BlockKind, List, Syntax};
 use mmdb_console::ProgramError;
+use mmdb_query::Addresses as Chosen;
 use std::alloc::Global;
 use std::io::Write;
 
@@ -27,7 +28,7 @@ pub(crate) fn push_blocks<O: Write>(
 fn push_kind<O: Write>(
     alloc: Global,
     kind: BlockKind,
-    chosen: &Addresses,
+    chosen: &Chosen,
     adjustment: &Adjustment,
     list: &mut List<'_>,
     out: &mut O,
@@ -44,7 +45,7 @@ pub(crate) fn write_adjusted<'a, O: Write>(
     alloc: Global,
     task: &ExportTask<'_>,
     syntax: Syntax<'a>,
-    chosen: &Addresses,
+    chosen: &Chosen,
     adjustment: &Adjustment,
     is_whole: bool,
     out: &mut O,

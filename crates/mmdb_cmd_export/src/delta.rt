@@ -69,8 +69,8 @@ fn changes_of(
     adjustment: &Adjustment,
     kind: BlockKind,
 ) -> Result<BlockChanges, RangesError> {
-    let old = adjustment.blocks_of(alloc, &old.addresses, kind)?;
-    let newer = adjustment.blocks_of(alloc, &newer.addresses, kind)?;
+    let old = adjustment.blocks_of(alloc, &old.chosen, kind)?;
+    let newer = adjustment.blocks_of(alloc, &newer.chosen, kind)?;
     let removed = blocks_without(alloc, &old, &newer)?;
     let added = blocks_without(alloc, &newer, &old)?;
     Ok(BlockChanges {

@@ -1,8 +1,10 @@
 //! The addresses of chosen networks, gathered.
-ghost use Rattle.std.specs.Prelude.{◌≡◌, ◌↔◌, ℕ, IfOk};
+ghost use Rattle.std.specs.Prelude.{◌↔◌, ◌⊎◌, ◌<◌, ◌^◌, ℕ, IfOk};
 ghost use Rattle.mmdb_blocks.specs.Blocks.{IsIn, IsJoined};
-ghost use Rattle.mmdb_blocks.specs.Ranges.{IsListed};
-ghost use Rattle.mmdb_cmd_export.specs.Gathered.{ranges_of};
+ghost use Rattle.mmdb_blocks.specs.Ranges.{IsAmong};
+ghost use Rattle.mmdb_query.specs.Parts.{ComesInPart};
+ghost use Rattle.mmdb_query.specs.Sets.{IsGathered};
+ghost use Rattle.mmdb_cmd_export.specs.Gathered.{IsMapped, IsListedOf, gathered_of};
 
 use crate::missing::are_values_met;
 use crate::reports::{AskedOfRecords, Reports};
@@ -12,14 +14,11 @@ use crate::task::ExportTask;
 use mmdb_blocks::{Block, BlockKind, BlockRange, Kinds, Ranges, RangesError, listed_blocks};
 use mmdb_console::{Console, Pace, ProgramError};
 use mmdb_layout::networks_in;
-use mmdb_query::{Answer, Many, One, Part, QueryError, Sink, Walk, put_each};
+use mmdb_query::{Addresses as Chosen, Many, One, Part, QueryError, Walk, gather};
 use mmdb_query_forms::AllOf;
-use mmdb_reader::{IpNetwork, MaxMindDbError};
+use mmdb_reader::IpNetwork;
 use std::alloc::{AllocError, Global};
 use std::io::{self, Write};
-
-/// The last address of IPv4.
-const LAST_OF_IPV4: u128 = u32::MAX as u128;
 
 /// Addresses of both kinds.
 #[derive(Drop)]
@@ -44,15 +43,6 @@ impl Addresses {
         }
     }
 
-    fn of(&self, kind: BlockKind) -> &Ranges
-        ensures { result.now ≡ ranges_of kind self.now }
-    {
-        match kind {
-            BlockKind::Ipv4 => &self.ipv4,
-            BlockKind::Ipv6 => &self.ipv6,
-        }
-    }
-
     /// Adds the addresses of a range of a kind.
     pub(crate) fn add(&mut self, kind: BlockKind, range: BlockRange) -> Result<(), AllocError> {
         match kind {
@@ -62,12 +52,16 @@ impl Addresses {
     }
 }
 
-// The kind of a network.
-fn kind_of(network: IpNetwork) -> BlockKind {
-    match network {
-        IpNetwork::V4(_) => BlockKind::Ipv4,
-        IpNetwork::V6(_) => BlockKind::Ipv6,
+// The addresses of blocks.
+fn ranges_of_blocks(alloc: Global, blocks: &[Block]) -> Result<Ranges, RangesError>
+    ensures { IfOk result (λ ranges. (address : ℕ) → IsAmong address ranges
+        ↔ IsIn address blocks.now) }
+{
+    let mut ranges = Ranges::new(alloc);
+    for block in blocks {
+        ranges.add_block(*block)?;
     }
+    Ok(ranges)
 }
 
 /// Which addresses a list has beside those of the chosen networks, and which it has not.
@@ -86,105 +80,51 @@ impl Adjustment {
         }
     }
 
+    // What a list has of IPv4 beside the chosen addresses of IPv4: what is added, and what chosen networks of IPv6 have of it, which
+    // lookups of IPv4 find where a database has no tree of it.
+    fn also_ipv4(&self, alloc: Global, chosen: &Chosen) -> Result<Ranges, RangesError>
+        ensures { IfOk result (λ also. (address : ℕ) → address < 2 ^ 128 → IsAmong address also
+            ↔ (IsMapped chosen.now address ⊎ IsAmong address self.now.also.ipv4)) }
+    {
+        let nothing = Ranges::new(alloc);
+        let mut beyond = Ranges::new(alloc);
+        beyond.add(BlockRange {
+            first: 1 << 32,
+            last: u128::MAX,
+        })?;
+        let mapped = listed_blocks(alloc, chosen.ipv6(), &nothing, &beyond)?;
+        let mapped = ranges_of_blocks(alloc, mapped.as_slice())?;
+        let all = listed_blocks(alloc, &mapped, &self.also.ipv4, &nothing)?;
+        ranges_of_blocks(alloc, all.as_slice())
+    }
+
     /// The fewest blocks of a kind that have the chosen addresses, with what is added and without what is taken away.
     pub(crate) fn blocks_of(
         &self,
         alloc: Global,
-        chosen: &Addresses,
+        chosen: &Chosen,
         kind: BlockKind,
     ) -> Result<Vec<Block>, RangesError>
-        ensures exact { IfOk result (λ blocks. (address : ℕ) → IsIn address blocks.items
-            ↔ IsListed address (ranges_of kind chosen.now) (ranges_of kind self.now.also)
-            (ranges_of kind self.now.except)) }
+        ensures exact { IfOk result (λ blocks. (address : ℕ) → address < 2 ^ 128
+            → IsIn address blocks.items ↔ IsListedOf kind chosen.now self.now address) }
         ensures fewest { IfOk result (λ blocks. IsJoined blocks.items blocks.items) }
     {
-        listed_blocks(
-            alloc,
-            chosen.of(kind),
-            self.also.of(kind),
-            self.except.of(kind),
-        )
-    }
-}
-
-// The addresses of IPv4 that a network of IPv6 has: lookups of them find it where a database has no tree of IPv4.
-fn ipv4_in(network: IpNetwork, range: BlockRange) -> Option<BlockRange> {
-    match network {
-        IpNetwork::V6(_) if range.first <= LAST_OF_IPV4 => Some(BlockRange {
-            first: range.first,
-            last: range.last.min(LAST_OF_IPV4),
-        }),
-        _ => None,
-    }
-}
-
-impl Addresses {
-    // Adds the addresses of a network, and of one of IPv6 those of IPv4 that it has.
-    fn add_network(&mut self, network: IpNetwork) -> Result<(), AllocError> {
-        let block = Block::of_network(network);
-        let range = BlockRange {
-            first: block.first,
-            last: block.last(),
-        };
-        if let Some(mapped) = ipv4_in(network, range) {
-            self.add(BlockKind::Ipv4, mapped)?;
+        match kind {
+            BlockKind::Ipv4 => {
+                let also = self.also_ipv4(alloc, chosen)?;
+                listed_blocks(alloc, chosen.ipv4(), &also, &self.except.ipv4)
+            }
+            BlockKind::Ipv6 => {
+                listed_blocks(alloc, chosen.ipv6(), &self.also.ipv6, &self.except.ipv6)
+            }
         }
-        self.add(kind_of(network), range)
-    }
-}
-
-/// A set of addresses takes those of each network, and nothing is written.
-impl Sink for Addresses {
-    ghost use Rattle.std.specs.Prelude.{[]};
-    ghost use Rattle.mmdb_query.specs.Rows.{nothing};
-    ghost use Rattle.mmdb_query.specs.Sets.{needs_nothing};
-
-    ghost Form = { Unit {0} };
-
-    ghost form = { λ _. nothing };
-
-    ghost Took = { Unit {0} };
-
-    ghost took = { λ _. nothing };
-
-    ghost puts = { λ form s had old text new. text ≡ [] };
-
-    ghost is_unread = { needs_nothing };
-
-    ghost fits = { λ _ _. Unit {0} };
-
-    #[inline(always)]
-    fn put_kept<A: Answer, O: Write>(
-        &mut self,
-        answer: &A,
-        _out: &mut O,
-    ) -> Result<bool, QueryError> {
-        match self.add_network(answer.network()) {
-            Ok(()) => Ok(true),
-            Err(_) => Err(QueryError::Memory),
-        }
-    }
-
-    fn put<A: Answer, O: Write>(
-        &mut self,
-        answer: &A,
-        _out: &mut O,
-    ) -> Result<Option<MaxMindDbError>, QueryError> {
-        match self.add_network(answer.network()) {
-            Ok(()) => Ok(None),
-            Err(_) => Err(QueryError::Memory),
-        }
-    }
-
-    fn drop_caches(&mut self) -> bool {
-        false
     }
 }
 
 /// The addresses of the chosen networks, and how many networks could not be read.
 #[derive(Drop)]
 pub(crate) struct Gathered {
-    pub(crate) addresses: Addresses,
+    pub(crate) chosen: Chosen,
     pub(crate) faults: u64,
 }
 
@@ -197,34 +137,27 @@ pub(crate) struct Listed<'x, 'd> {
 }
 
 impl<'x, 'd> Listed<'x, 'd> {
-    // Gathers the addresses of the chosen networks of a walk.
+    // Gathers the addresses of the chosen networks of a walk: exactly these, of which so many can't be read.
     fn gather_along<W: Walk + Drop, E: Pace>(
         &self,
         alloc: Global,
         walk: W,
+        range: Option<IpNetwork>,
         reports: &mut Reports<'_, '_, '_, E>,
-    ) -> Result<Addresses, ProgramError> {
+    ) -> Result<(Chosen, u64), QueryError>
+        ensures { IfOk result (λ found. IsGathered (ComesInPart self.now.kinds range (W.comes walk))
+            (gathered_of self.now.task.now.conditions.items (W.sections walk))
+            found.0 found.1) }
+    {
         let conditions = AllOf {
             conditions: self.task.conditions.as_slice(),
         };
-        let mut addresses = Addresses::new(alloc);
         let mut part = Part {
             walk,
             kinds: self.kinds,
-            range: self.several.alone().and(self.several.range()),
+            range,
         };
-        let gathered = put_each(
-            alloc,
-            &mut part,
-            &conditions,
-            &mut addresses,
-            &mut io::sink(),
-            reports,
-        );
-        match gathered {
-            Ok(_) => Ok(addresses),
-            Err(error) => Err(of_query(error)),
-        }
+        gather(alloc, &mut part, &conditions, reports)
     }
 
     // Gathers the addresses of the chosen networks of the databases.
@@ -232,14 +165,21 @@ impl<'x, 'd> Listed<'x, 'd> {
         &self,
         alloc: Global,
         reports: &mut Reports<'_, '_, '_, E>,
-    ) -> Result<Addresses, ProgramError> {
-        if let Some(database) = self.several.alone() {
-            let networks = networks_in(alloc, database, self.several.range())?;
-            return self.gather_along(alloc, One::new(networks), reports);
-        }
-        match Many::new(alloc, self.several.asked()) {
-            Ok(walk) => self.gather_along(alloc, walk, reports),
-            Err((_, error)) => Err(ProgramError::from(error)),
+    ) -> Result<Chosen, ProgramError> {
+        let range = self.several.range();
+        let gathered = match self.several.alone() {
+            Some(database) => {
+                let walk = One::new(networks_in(alloc, database, range)?);
+                self.gather_along(alloc, walk, range, reports)
+            }
+            None => match Many::new(alloc, self.several.asked()) {
+                Ok(walk) => self.gather_along(alloc, walk, None, reports),
+                Err((_, error)) => return Err(ProgramError::from(error)),
+            },
+        };
+        match gathered {
+            Ok((chosen, _)) => Ok(chosen),
+            Err(error) => Err(of_query(error)),
         }
     }
 
@@ -260,10 +200,10 @@ impl<'x, 'd> Listed<'x, 'd> {
             &mut *console.errors,
         );
         let mut reports = Reports::new(errors, self.several, asked)?;
-        let addresses = self.gather_all(console.alloc, &mut reports);
+        let chosen = self.gather_all(console.alloc, &mut reports);
         reports.clear_progress();
         Ok(Gathered {
-            addresses: addresses?,
+            chosen: chosen?,
             faults: reports.count,
         })
     }

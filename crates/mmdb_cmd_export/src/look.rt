@@ -60,26 +60,34 @@ pub(crate) fn look_along<W: Walk + Drop, L: Look>(
 
 /// Where the first records are that were looked at.
 #[derive(Drop)]
-pub(crate) struct FirstRecords<'x, 'd> {
-    several: &'x Several<'d>,
+pub(crate) struct FirstRecords<'d> {
+    /// The data sections of the databases that are asked.
+    sections: Vec<&'d [u8]>,
     records: Vec<RecordAt<'d>>,
 }
 
-impl<'x, 'd> FirstRecords<'x, 'd> {
+impl<'d> FirstRecords<'d> {
     /// None yet, of these databases.
-    pub(crate) fn new(alloc: Global, several: &'x Several<'d>) -> FirstRecords<'x, 'd> {
-        FirstRecords {
-            several,
-            records: Vec::new(alloc),
+    pub(crate) fn new(
+        alloc: Global,
+        several: &Several<'d>,
+    ) -> Result<FirstRecords<'d>, AllocError> {
+        let mut sections = Vec::with_capacity(alloc, several.asked_count())?;
+        for place in 0..several.asked_count() {
+            sections.push(several.section_at(place))?;
         }
+        Ok(FirstRecords {
+            sections,
+            records: Vec::new(alloc),
+        })
     }
 
     /// Adds where the records of a network are, as long as they are few.
     pub(crate) fn add<A: Answer>(&mut self, answer: &A) -> Result<(), AllocError> {
-        for place in 0..self.several.asked_count() {
+        for (place, section) in self.sections.iter().enumerate() {
             match answer.offset(place) {
                 Some(offset) if self.records.len() < MOST_RECORDS => {
-                    let section = self.several.section_at(place);
+                    let section = *section;
                     self.records.push(RecordAt { section, offset })?;
                 }
                 _ => {}
@@ -94,7 +102,7 @@ impl<'x, 'd> FirstRecords<'x, 'd> {
     }
 }
 
-impl Look for FirstRecords<'_, '_> {
+impl Look for FirstRecords<'_> {
     fn look<A: Answer>(&mut self, answer: &A) -> Result<bool, ProgramError> {
         self.add(answer)?;
         Ok(self.records.len() < MOST_RECORDS)

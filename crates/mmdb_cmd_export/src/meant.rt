@@ -15,8 +15,8 @@ const MOST_LOOKED_AT: usize = 1 << 16;
 
 /// What is looked for in place of one value.
 #[derive(Drop)]
-struct Seeker<'t, 'a> {
-    named: &'t NamedValue<'a>,
+struct Seeker<'a> {
+    named: &'a NamedValue<'a>,
     similar: Similar<'a>,
     /// Whether a record has a value at the path.
     has_value: bool,
@@ -24,11 +24,11 @@ struct Seeker<'t, 'a> {
 
 /// What is looked for in place of values.
 #[derive(Drop)]
-pub(crate) struct Seekers<'t, 'a, 'x, 'd> {
+pub(crate) struct Seekers<'a, 'd> {
     alloc: Global,
-    seekers: Vec<Seeker<'t, 'a>>,
+    seekers: Vec<Seeker<'a>>,
     /// The first records, among whose paths it is looked for another one.
-    first: FirstRecords<'x, 'd>,
+    first: FirstRecords<'d>,
     /// How many networks were looked at.
     count: usize,
 }
@@ -49,7 +49,7 @@ fn offer_value(
     }
 }
 
-impl Seeker<'_, '_> {
+impl Seeker<'_> {
     // Offers the value that a record has at the path. One that can't be read is passed.
     fn offer<R: ReadAlong>(&mut self, alloc: Global, found: &R) -> Result<(), AllocError> {
         let value = found.outline_along(alloc, self.named.condition.path.as_slice());
@@ -119,19 +119,19 @@ pub(crate) fn path_in<'a>(named: &NamedValue<'a>) -> &'a str {
     }
 }
 
-impl<'t, 'a, 'x, 'd> Seekers<'t, 'a, 'x, 'd> {
+impl<'a, 'd> Seekers<'a, 'd> {
     /// Of nothing yet, in these databases.
-    pub(crate) fn new(alloc: Global, several: &'x Several<'d>) -> Seekers<'t, 'a, 'x, 'd> {
-        Seekers {
+    pub(crate) fn new(alloc: Global, several: &Several<'d>) -> Result<Seekers<'a, 'd>, AllocError> {
+        Ok(Seekers {
             alloc,
             seekers: Vec::new(alloc),
-            first: FirstRecords::new(alloc, several),
+            first: FirstRecords::new(alloc, several)?,
             count: 0,
-        }
+        })
     }
 
     /// Adds a value that no network has.
-    pub(crate) fn add(&mut self, named: &'t NamedValue<'a>) -> Result<(), AllocError> {
+    pub(crate) fn add(&mut self, named: &'a NamedValue<'a>) -> Result<(), AllocError> {
         let similar = Similar::new(self.alloc, named.value)?;
         self.seekers.push(Seeker {
             named,
@@ -155,7 +155,7 @@ impl<'t, 'a, 'x, 'd> Seekers<'t, 'a, 'x, 'd> {
     }
 }
 
-impl Look for Seekers<'_, '_, '_, '_> {
+impl Look for Seekers<'_, '_> {
     fn look<A: Answer>(&mut self, answer: &A) -> Result<bool, ProgramError> {
         self.first.add(answer)?;
         for seeker in &mut self.seekers {

@@ -61,9 +61,9 @@ fn lack_of_all(task: &ExportTask<'_>, hint: &'static str) -> Lack {
 
 /// Which of the values that conditions name some network has.
 #[derive(Drop)]
-struct Search<'t, 'a> {
+struct Search<'a> {
     alloc: Global,
-    named: &'t [NamedValue<'a>],
+    named: &'a [NamedValue<'a>],
     are_met: Vec<bool>,
     /// The values of files that no network has so far.
     files: Vec<FileSearch<'a>>,
@@ -82,12 +82,12 @@ fn meets<R: ReadAlong>(
     }
 }
 
-impl<'t, 'a> Search<'t, 'a> {
+impl<'a> Search<'a> {
     fn new(
         alloc: Global,
-        named: &'t [NamedValue<'a>],
+        named: &'a [NamedValue<'a>],
         files: Vec<FileSearch<'a>>,
-    ) -> Result<Search<'t, 'a>, AllocError> {
+    ) -> Result<Search<'a>, AllocError> {
         Ok(Search {
             alloc,
             named,
@@ -156,7 +156,7 @@ impl<'t, 'a> Search<'t, 'a> {
     }
 }
 
-impl Look for Search<'_, '_> {
+impl Look for Search<'_> {
     fn look<A: Answer>(&mut self, answer: &A) -> Result<bool, ProgramError> {
         self.meet(&Along { answer })?;
         Ok(!self.is_done())
@@ -199,16 +199,16 @@ fn missing_line(
 
 // A value that no network has, and what lets a list be written without it.
 #[derive(Clone, Copy)]
-struct MissingValue<'t, 'a> {
-    named: &'t NamedValue<'a>,
+struct MissingValue<'a> {
+    named: &'a NamedValue<'a>,
     hint: &'static str,
 }
 
 // The values that no network has of which something is said, and how many there are without which the list is not written.
-fn missing_values<'t, 'a>(
+fn missing_values<'a>(
     task: &ExportTask<'_>,
-    search: &Search<'t, 'a>,
-) -> Result<(Vec<MissingValue<'t, 'a>>, usize), AllocError> {
+    search: &Search<'a>,
+) -> Result<(Vec<MissingValue<'a>>, usize), AllocError> {
     let mut missing = Vec::new(search.alloc);
     let mut refused = 0usize;
     for (named, is_met) in search.named.iter().zip(&search.are_met) {
@@ -229,17 +229,14 @@ fn missing_values<'t, 'a>(
 }
 
 // What is looked for in place of the first of the values that no network has.
-fn seekers_of<'t, 'a, 'x, 'd>(
-    several: &'x Several<'d>,
-    missing: &[MissingValue<'t, 'a>],
+fn seekers_of<'a, 'd>(
+    several: &Several<'d>,
+    missing: &[MissingValue<'a>],
     alloc: Global,
-) -> Result<Seekers<'t, 'a, 'x, 'd>, ProgramError> {
-    let mut seekers = Seekers::new(alloc, several);
+) -> Result<Seekers<'a, 'd>, AllocError> {
+    let mut seekers = Seekers::new(alloc, several)?;
     for value in missing.iter().take(MOST_SOUGHT) {
         seekers.add(value.named)?;
-    }
-    if seekers.count() > 0 {
-        several.look(alloc, Kinds::Both, &mut seekers)?;
     }
     Ok(seekers)
 }
@@ -248,12 +245,15 @@ fn seekers_of<'t, 'a, 'x, 'd>(
 fn report_named<O: Write, E: Write>(
     several: &Several<'_>,
     task: &ExportTask<'_>,
-    search: &Search<'_, '_>,
+    search: &Search<'_>,
     console: &mut Console<'_, O, E>,
 ) -> Result<usize, ProgramError> {
     let alloc = console.alloc;
     let (missing, refused) = missing_values(task, search)?;
-    let seekers = seekers_of(several, missing.as_slice(), alloc)?;
+    let mut seekers = seekers_of(several, missing.as_slice(), alloc)?;
+    if seekers.count() > 0 {
+        several.look(alloc, Kinds::Both, &mut seekers)?;
+    }
     for (number, value) in missing.iter().enumerate() {
         let meant = seekers.meant(number)?;
         let line = missing_line(alloc, task, value.named, meant.as_deref(), value.hint);
@@ -265,7 +265,7 @@ fn report_named<O: Write, E: Write>(
 // Says of the paths of files of whose values no network has any that no record has them, if none has.
 fn note_paths<O: Write, E: Write>(
     several: &Several<'_>,
-    search: &Search<'_, '_>,
+    search: &Search<'_>,
     console: &mut Console<'_, O, E>,
 ) -> Result<(), ProgramError> {
     for file in search.files.iter().filter(|file| file.is_all_missing()) {
@@ -279,7 +279,7 @@ fn note_paths<O: Write, E: Write>(
 // Reports the values of files that no network has, and answers for how many files the list is not written.
 fn report_files<O: Write, E: Write>(
     task: &ExportTask<'_>,
-    search: &Search<'_, '_>,
+    search: &Search<'_>,
     console: &mut Console<'_, O, E>,
 ) -> usize {
     let mut refused = 0usize;
@@ -300,7 +300,7 @@ fn report_files<O: Write, E: Write>(
 fn report_search<O: Write, E: Write>(
     several: &Several<'_>,
     task: &ExportTask<'_>,
-    search: &Search<'_, '_>,
+    search: &Search<'_>,
     console: &mut Console<'_, O, E>,
 ) -> Result<bool, ProgramError> {
     let named = report_named(several, task, search, console)?;
@@ -311,9 +311,9 @@ fn report_search<O: Write, E: Write>(
 
 /// Whether networks of these kinds have all the values that a list's conditions name, or may lack them. Those that none has are
 /// reported, each with one that may be meant. It is known before anything is written.
-pub(crate) fn are_values_met<O: Write, E: Write>(
+pub(crate) fn are_values_met<'a, O: Write, E: Write>(
     several: &Several<'_>,
-    task: &ExportTask<'_>,
+    task: &'a ExportTask<'a>,
     kinds: Kinds,
     console: &mut Console<'_, O, E>,
 ) -> Result<bool, ProgramError> {

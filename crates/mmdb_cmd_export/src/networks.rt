@@ -101,7 +101,7 @@ fn export_adjusted<O: Write, E: Pace>(
         console.alloc,
         listed.task,
         syntax,
-        &gathered.addresses,
+        &gathered.chosen,
         adjustment,
         gathered.faults == 0,
         console.out,

@@ -264,7 +264,7 @@ impl<'x, 'd> RowTask<'x, 'd> {
             return Ok(());
         }
         console.flush()?;
-        let mut first = FirstRecords::new(self.alloc, self.several);
+        let mut first = FirstRecords::new(self.alloc, self.several)?;
         // where they can't be looked at, no other field is named
         let _ = self.several.look(self.alloc, Kinds::Both, &mut first);
         for name in names.iter().take(MOST_NAMED) {
