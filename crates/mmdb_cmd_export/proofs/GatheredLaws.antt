@@ -3,7 +3,7 @@ use Rattle.std.proofs.Common.{◌≡◌, ℕ, ◌<◌, ◌≤◌, ◌^◌, ◌�
 use Rattle.mmdb_blocks.specs.declared.block.Block.{Block}
 use Rattle.mmdb_blocks.specs.declared.ranges.BlockRange.{BlockRange}
 use Rattle.mmdb_blocks.specs.Blocks.{IsWithin, IsIn}
-use Rattle.mmdb_blocks.specs.Ranges.{IsOfRange, IsAmong, IsListed}
+use Rattle.mmdb_blocks.specs.Ranges.{IsAmong, IsListed}
 use Rattle.mmdb_query.specs.declared.addresses.Addresses.{Addresses as Chosen}
 use Rattle.mmdb_cmd_export.specs.Gathered.{IsMapped}
 

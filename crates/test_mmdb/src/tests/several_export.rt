@@ -125,6 +125,14 @@ const ROWS: &[Row<'static>] = &[
         ASN, CITY, &["128.0.0.0/2", "--field", "c.j", "--field", "o"], "", 0,
         "{\"network\":\"128.0.0.0/2\",\"c.j\":null,\"o\":\"x\"}\n", &["mmdb: no record has c.j; did you mean c.i?\n"],
     ),
+    // a path of a condition that none has is said first
+    (
+        CITY, ASN, &["128.0.0.0/2", "--where-not", "zz=1", "--field", "c.j", "--field", "o"], "", 0,
+        "{\"network\":\"128.0.0.0/2\",\"c.j\":null,\"o\":\"x\"}\n",
+        &["mmdb: no record has zz\nmmdb: no record has c.j; did you mean c.i?\n"],
+    ),
+    // a field of no row is not said to be in no record
+    (CITY, ASN, &["--where-has", "zz", "--field", "c.j"], "", 0, "", &["mmdb: no record has zz\n"]),
 ];
 
 #[rattlefmt::skip]

@@ -1,4 +1,4 @@
-use Rattle.std.proofs.Common.{◌≡◌, ◌↔◌, ◌⊎◌, ◌≤◌, sym, subst}
+use Rattle.std.proofs.Common.{◌↔◌, ◌⊎◌, ◌≤◌, subst}
 use Rattle.mmdb_blocks.specs.Blocks.{IsIn}
 use Rattle.mmdb_blocks.specs.Ranges.{IsAmong, IsListed}
 use Rattle.mmdb_cmd_export.specs.Gathered.{IsMapped}

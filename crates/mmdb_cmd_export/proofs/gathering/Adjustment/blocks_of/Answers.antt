@@ -1,6 +1,6 @@
-use Rattle.std.proofs.Common.{◌≡◌, ◌↔◌, ◌<◌, ◌^◌, ℕ, IfOk, sym, subst}
+use Rattle.std.proofs.Common.{◌↔◌, sym, subst}
 use Rattle.mmdb_blocks.specs.Blocks.{IsIn}
-use Rattle.mmdb_blocks.specs.Ranges.{IsAmong, IsListed}
+use Rattle.mmdb_blocks.specs.Ranges.{IsListed}
 use Rattle.mmdb_cmd_export.specs.Gathered.{IsMapped, IsListedOf}
 use Rattle.mmdb_cmd_export.proofs.GatheredLaws.{listed_beside, read_of}
 use Rattle.mmdb_cmd_export.proofs.gathering.Adjustment.blocks_of.Goals as goal
