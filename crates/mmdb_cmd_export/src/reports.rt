@@ -181,12 +181,29 @@ impl<'x, 'd, 'c, E: Pace> Reports<'x, 'd, 'c, E> {
         Ok(())
     }
 
+    // Reports a network of the one database that there is. Its whole is not looked for where enough are named.
+    fn report_alone(
+        &mut self,
+        network: IpNetwork,
+        error: &MaxMindDbError,
+    ) -> Result<(), AllocError> {
+        let whole = if self.count < MOST_NAMED {
+            self.network_in(0, network)
+        } else {
+            network
+        };
+        self.report_at(0, Where::At(whole), error)
+    }
+
     // Reports a network.
     fn report_network<A: Answer>(
         &mut self,
         answer: &A,
         error: &MaxMindDbError,
     ) -> Result<(), AllocError> {
+        if !self.several.are_several() {
+            return self.report_alone(answer.network(), error);
+        }
         let count = self.several.asked().len();
         let asked = self.asked;
         let Some(place) = asked.fault_in(self.console.alloc, answer, count) else {
