@@ -125,8 +125,10 @@ fn gather_old<'d, O: Write, E: Pace>(
 ) -> Result<Gathered, ProgramError> {
     let looked = looked_at(old, task)?;
     let several = Several::new(console.alloc, &*old, looked.range)?;
+    let whole = Several::new(console.alloc, &*old, task.range)?;
     let listed = Listed {
         several: &several,
+        whole: &whole,
         task,
         kinds: looked.kinds,
     };
@@ -141,8 +143,10 @@ fn gather_new<'d, O: Write, E: Pace>(
 ) -> Result<Option<Gathered>, ProgramError> {
     let looked = looked_at(newer, task)?;
     let several = Several::new(console.alloc, &*newer, looked.range)?;
+    let whole = Several::new(console.alloc, &*newer, task.range)?;
     let listed = Listed {
         several: &several,
+        whole: &whole,
         task,
         kinds: looked.kinds,
     };

@@ -131,7 +131,10 @@ pub(crate) struct Gathered {
 /// What a list is of: the networks of databases that are of some kinds, and what is asked of them.
 #[derive(Clone, Copy)]
 pub(crate) struct Listed<'x, 'd> {
+    /// The databases in the range that is looked at for it.
     pub(crate) several: &'x Several<'d>,
+    /// The same in the range that was asked for, where it is looked for what may be meant.
+    pub(crate) whole: &'x Several<'d>,
     pub(crate) task: &'x ExportTask<'x>,
     pub(crate) kinds: Kinds,
 }
@@ -228,6 +231,6 @@ impl<'x, 'd> Listed<'x, 'd> {
         if self.task.conditions.is_empty() {
             return Ok(true);
         }
-        are_values_met(self.several, self.task, self.kinds, console)
+        are_values_met(self, console)
     }
 }

@@ -63,6 +63,8 @@ pub(crate) fn look_along<W: Walk + Drop, L: Look>(
 pub(crate) struct FirstRecords<'d> {
     /// The data sections of the databases that are asked.
     sections: Vec<&'d [u8]>,
+    /// The place of the database and the offset of each record.
+    places: Vec<(usize, usize)>,
     records: Vec<RecordAt<'d>>,
 }
 
@@ -78,33 +80,41 @@ impl<'d> FirstRecords<'d> {
         }
         Ok(FirstRecords {
             sections,
+            places: Vec::new(alloc),
             records: Vec::new(alloc),
         })
     }
 
+    // Adds where a record of the database at a place is, unless that is there, or there are enough.
+    fn add_record(&mut self, place: usize, offset: usize) -> Result<(), AllocError> {
+        let Some(section) = self.sections.get(place).copied() else {
+            return Ok(());
+        };
+        if self.are_enough() || self.places.contains(&(place, offset)) {
+            return Ok(());
+        }
+        self.places.push((place, offset))?;
+        self.records.push(RecordAt { section, offset })?;
+        Ok(())
+    }
+
     /// Adds where the records of a network are, as long as they are few.
     pub(crate) fn add<A: Answer>(&mut self, answer: &A) -> Result<(), AllocError> {
-        for (place, section) in self.sections.iter().enumerate() {
-            match answer.offset(place) {
-                Some(offset) if self.records.len() < MOST_RECORDS => {
-                    let section = *section;
-                    self.records.push(RecordAt { section, offset })?;
-                }
-                _ => {}
+        for place in 0..self.sections.len() {
+            if let Some(offset) = answer.offset(place) {
+                self.add_record(place, offset)?;
             }
         }
         Ok(())
     }
 
+    /// Whether no more are added.
+    pub(crate) fn are_enough(&self) -> bool {
+        self.records.len() >= MOST_RECORDS
+    }
+
     /// Those that were looked at.
     pub(crate) fn records(&self) -> &[RecordAt<'d>] {
         self.records.as_slice()
-    }
-}
-
-impl Look for FirstRecords<'_> {
-    fn look<A: Answer>(&mut self, answer: &A) -> Result<bool, ProgramError> {
-        self.add(answer)?;
-        Ok(self.records.len() < MOST_RECORDS)
     }
 }

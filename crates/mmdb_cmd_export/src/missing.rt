@@ -2,6 +2,7 @@
 
 use crate::absent_paths::note_absent_path;
 use crate::conditions::{NamedValue, Role};
+use crate::gathering::Listed;
 use crate::listed_values::{FileSearch, searches_of};
 use crate::look::Look;
 use crate::meant::Seekers;
@@ -312,13 +313,14 @@ fn report_search<O: Write, E: Write>(
 /// Whether networks of these kinds have all the values that a list's conditions name, or may lack them. Those that none has are
 /// reported, each with one that may be meant. It is known before anything is written.
 pub(crate) fn are_values_met<'a, O: Write, E: Write>(
-    several: &Several<'_>,
-    task: &'a ExportTask<'a>,
-    kinds: Kinds,
+    listed: &Listed<'a, '_>,
     console: &mut Console<'_, O, E>,
 ) -> Result<bool, ProgramError> {
+    let task = listed.task;
     let files = searches_of(console.alloc, task.files)?;
     let mut search = Search::new(console.alloc, task.named.as_slice(), files)?;
-    several.look(console.alloc, kinds, &mut search)?;
-    report_search(several, task, &search, console)
+    listed
+        .several
+        .look(console.alloc, listed.kinds, &mut search)?;
+    report_search(listed.whole, task, &search, console)
 }

@@ -116,6 +116,9 @@ fn export_list<O: Write, E: Pace>(
     adjustment: Option<&Adjustment>,
     console: &mut Console<'_, O, E>,
 ) -> Result<u8, ProgramError> {
+    if listed.several.are_several() && !listed.several.can_be_asked(console)? {
+        return Ok(FAILED);
+    }
     if !listed.may_be_written(console)? {
         return Ok(FAILED);
     }
@@ -140,14 +143,16 @@ fn export_databases<'d, O: Write, E: Pace>(
     adjustment: Option<&Adjustment>,
     console: &mut Console<'_, O, E>,
 ) -> Result<u8, ProgramError> {
-    let looked = looked_at(databases, task)?;
-    let several = Several::new(console.alloc, &*databases, looked.range)?;
+    let whole = Several::new(console.alloc, &*databases, task.range)?;
     let syntax = match &task.shape {
-        Shape::Rows(layout) => return write_rows(&several, task, layout, console),
+        Shape::Rows(layout) => return write_rows(&whole, task, layout, console),
         Shape::List(syntax) => *syntax,
     };
+    let looked = looked_at(databases, task)?;
+    let several = Several::new(console.alloc, &*databases, looked.range)?;
     let listed = Listed {
         several: &several,
+        whole: &whole,
         task,
         kinds: looked.kinds,
     };

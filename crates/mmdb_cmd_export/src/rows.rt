@@ -7,15 +7,18 @@ ghost use Rattle.mmdb_query_forms.specs.Fitting.{ScratchFits};
 ghost use Rattle.mmdb_cmd_export.specs.Written.{AreWritten, EndRows};
 
 use crate::absent_paths::note_absent_paths;
-use crate::look::FirstRecords;
+use crate::look::{FirstRecords, Look};
 use crate::reports::{AskedOfRecords, Reports, report_faults};
 use crate::several::Several;
 use crate::task::ExportTask;
-use mmdb_blocks::Kinds;
 use mmdb_compare::AskedDatabase;
 use mmdb_console::{Console, FAILED, Pace, ProgramError, line_of};
-use mmdb_layout::{ChosenFields, Database, Layout, NETWORK, absent_text, keys_of, networks_in};
-use mmdb_query::{Answer, Faults, Many, One, Part, QueryError, Rows, Template, Walk, export_rows};
+use mmdb_layout::{
+    ChosenFields, Condition, Database, Layout, NETWORK, absent_text, keys_of, networks_in,
+};
+use mmdb_query::{
+    Answer, Conditions, Faults, Many, One, Part, QueryError, Rows, Template, Walk, export_rows,
+};
 use mmdb_query_forms::{AllOf, Column, ColumnScratch, ColumnSource, Columns, RowForm};
 use mmdb_reader::MaxMindDbError;
 use std::alloc::{AllocError, Global};
@@ -30,7 +33,7 @@ const MOST_OF_RECORDS: usize = 4 << 20;
 /// How many fields are named that no record has.
 const MOST_NAMED: usize = 10;
 
-//// What a query answered, as the program reports it.
+/// What a query answered, as the program reports it.
 pub(crate) fn of_query(error: QueryError) -> ProgramError {
     match error {
         QueryError::Memory => ProgramError::Memory,
@@ -89,6 +92,26 @@ fn columns_of<'a>(
         Layout::Cells(fields) => (RowForm::Csv, columns_of_fields(alloc, fields)?),
     };
     Ok(Columns { form, columns })
+}
+
+// Where the first records are of which rows are made.
+#[derive(Drop)]
+struct ChosenRecords<'c, 'd> {
+    alloc: Global,
+    conditions: &'c [Condition<'c>],
+    first: FirstRecords<'d>,
+}
+
+impl Look for ChosenRecords<'_, '_> {
+    fn look<A: Answer>(&mut self, answer: &A) -> Result<bool, ProgramError> {
+        let all = AllOf {
+            conditions: self.conditions,
+        };
+        if matches!(all.are_met(self.alloc, answer), Ok(true)) {
+            self.first.add(answer)?;
+        }
+        Ok(!self.first.are_enough())
+    }
 }
 
 // What rows are written of, and how.
@@ -264,11 +287,15 @@ impl<'x, 'd> RowTask<'x, 'd> {
             return Ok(());
         }
         console.flush()?;
-        let mut first = FirstRecords::new(self.alloc, self.several)?;
+        let mut chosen = ChosenRecords {
+            alloc: self.alloc,
+            conditions: self.task.conditions.as_slice(),
+            first: FirstRecords::new(self.alloc, self.several)?,
+        };
         // where they can't be looked at, no other field is named
-        let _ = self.several.look(self.alloc, Kinds::Both, &mut first);
+        let _ = self.several.look(self.alloc, self.task.kinds, &mut chosen);
         for name in names.iter().take(MOST_NAMED) {
-            let text = absent_text(self.alloc, "no record", *name, first.records());
+            let text = absent_text(self.alloc, "no record", *name, chosen.first.records());
             console.note(line_of(self.alloc, text));
         }
         let more = names.len().saturating_sub(MOST_NAMED);

@@ -5,11 +5,12 @@ use crate::clip::ipv4_part;
 use crate::look::{Look, look_along};
 use mmdb_blocks::{Block, BlockKind, Kinds};
 use mmdb_compare::AskedDatabase;
-use mmdb_console::ProgramError;
+use mmdb_console::{Console, ProgramError};
 use mmdb_layout::{Database, NamedDatabase, networks_in};
 use mmdb_query::{Many, One};
 use mmdb_reader::{IpNetwork, MaxMindDbError};
 use std::alloc::{AllocError, Global};
+use std::io::Write;
 use std::net::{IpAddr, Ipv4Addr, Ipv6Addr};
 
 /// The version of addresses of a database with IPv6.
@@ -134,6 +135,21 @@ impl<'d> Several<'d> {
         match Many::new(alloc, self.asked.as_slice()) {
             Ok(walk) => look_along(alloc, walk, kinds, looker),
             Err((_, error)) => Err(ProgramError::from(error)),
+        }
+    }
+
+    /// Whether the databases can be asked side by side in the range. The first that can't is reported.
+    pub(crate) fn can_be_asked<O: Write, E: Write>(
+        &self,
+        console: &mut Console<'_, O, E>,
+    ) -> Result<bool, ProgramError> {
+        match Many::new(console.alloc, self.asked.as_slice()) {
+            Ok(_walk) => Ok(true),
+            Err((_, MaxMindDbError::Memory)) => Err(ProgramError::Memory),
+            Err((place, error)) => {
+                console.report(self.name_at(place), &error);
+                Ok(false)
+            }
         }
     }
 
