@@ -6,3 +6,6 @@ pub mod NetworkLaws
 mod RangeLaws
 mod ListedLaws
 mod DeltaLaws
+mod ListLaws
+mod ListTextLaws
+mod WholeListLaws

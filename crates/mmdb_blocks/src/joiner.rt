@@ -1,5 +1,6 @@
 //! The joiner, which takes blocks one by one.
 ghost use Rattle.std.specs.Prelude.{◌≡◌, ◌≤◌, ◌↔◌, List, [], ◌∷◌, ◌++◌, IsOk, IsErrOf, IfOk, OnOk, OnErr, take, drop};
+ghost use Rattle.std.specs.List.{AllByRecursion};
 ghost use Rattle.std.specs.Vec.{vec_capacity};
 ghost use Rattle.mmdb_blocks.specs.Blocks.{IsBlock, IsJoined};
 ghost use Rattle.mmdb_blocks.specs.Joining.{IsAfter, IsReady, IsJoining, waiting_of, settled_of, most_waiting};
@@ -37,7 +38,7 @@ impl Model for Joiner {
     ghost view = { λ j. (j.waiting.items, j.settled.items) };
 
     ghost invariant = { λ j. IsReady j.waiting.items × (vec_capacity j.waiting ≡ most_waiting)
-        × (vec_capacity j.settled ≡ most_waiting) };
+        × (vec_capacity j.settled ≡ most_waiting) × AllByRecursion IsBlock j.settled.items };
 }
 
 impl Joiner {
@@ -83,6 +84,8 @@ impl Joiner {
             → IsJoining pushed handed (waiting_of self.old)
             → IsJoined pushed (handed ++ settled_of self.new) }
         ensures joining { IsJoining [] [] (waiting_of self.new) }
+        ensures handed { settled_of self.new ≡ waiting_of self.old }
+        ensures none { waiting_of self.new ≡ [] }
     {
         mem::swap(&mut self.waiting, &mut self.settled);
         self.waiting.clear();
@@ -90,7 +93,8 @@ impl Joiner {
 
     /// The blocks that the last call handed out, ascending.
     pub fn settled(&self) -> &[Block]
-        ensures { result.now ≡ settled_of self.now }
+        ensures all { result.now ≡ settled_of self.now }
+        ensures blocks { AllByRecursion IsBlock result.now }
     {
         &self.settled
     }

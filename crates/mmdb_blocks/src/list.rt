@@ -1,4 +1,14 @@
 //! Lists of the fewest networks that have the addresses of those that are pushed.
+ghost use Rattle.std.specs.Prelude.{◌≡◌, ◌+◌, ◌<◌, ◌≤◌, [], ◌∷◌, ◌++◌, None, Some, not, nat_eq, IsOk, IfOk, IfErr, OnOk};
+ghost use Rattle.std.specs.List.{AllByRecursion};
+ghost use Rattle.std.specs.Io.KnownBytes.{Appends};
+ghost use Rattle.mmdb_net.specs.Network.{short_text_of};
+ghost use Rattle.mmdb_blocks.specs.Blocks.{IsBlock};
+ghost use Rattle.mmdb_blocks.specs.Joining.{waiting_of, settled_of};
+ghost use Rattle.mmdb_blocks.specs.Kinds.{prefix_in};
+ghost use Rattle.mmdb_blocks.specs.Lists.{lower_half, upper_half, written_for, page_of, listing_of, begun, beginning_left, headed, heading_of, noted, with_network, printed_one, printed_lines, with_lines, printed, with_blocks, printed_rest, with_rest, closing_left, changed_text, changed_page, changed_waiting, IsTaken, IsPushed, finished_text, finished_page, rest_waiting, settled_text, with_settled, no_networks, Prints, IsOfOutput, WritesNone, BreaksOff, PushFails, IsEndOf};
+ghost use Rattle.mmdb_blocks.specs.Texts.{network_text, breaking_of};
+
 use crate::block::Block;
 use crate::joiner::Joiner;
 use crate::kind::{BlockKind, Kinds};
@@ -20,6 +30,10 @@ pub enum BlocksError {
 }
 
 impl From<AllocError> for BlocksError {
+    ghost use Rattle.mmdb_blocks.specs.declared.list.BlocksError.TheVariants.{Memory};
+
+    ghost from_gives = { λ _ e. e ≡ Memory };
+
     fn from(_error: AllocError) -> BlocksError {
         BlocksError::Memory
     }
@@ -35,6 +49,10 @@ impl From<RangesError> for BlocksError {
 }
 
 impl From<IpNetworkError> for BlocksError {
+    ghost use Rattle.mmdb_blocks.specs.declared.list.BlocksError.TheVariants.{OutOfOrder};
+
+    ghost from_gives = { λ _ e. e ≡ OutOfOrder };
+
     fn from(_error: IpNetworkError) -> BlocksError {
         BlocksError::OutOfOrder
     }
@@ -76,33 +94,51 @@ pub struct List<'a> {
 }
 
 // Writes a text.
-fn put<O: Write>(text: &[u8], out: &mut O) -> Result<(), BlocksError> {
+fn put<O: Write>(text: &[u8], out: &mut O) -> Result<(), BlocksError>
+    ensures written { OnOk result (Appends (O.contents out.old) (O.contents out.new) text.now) }
+    ensures failed { IfErr result IsOfOutput }
+{
     match out.write_all(text) {
         Ok(()) => Ok(()),
         Err(error) => Err(BlocksError::Write(error)),
     }
 }
 
-// The lower and the upper half of a block that has all addresses of a kind.
-fn halves_of(block: Block) -> [Block; 2] {
-    let prefix = block.prefix.saturating_add(1);
-    [
-        Block {
-            first: block.first,
-            prefix,
-        },
-        Block {
-            first: block
-                .first
-                .saturating_add(1 << (128 - prefix.min(128).max(1))),
-            prefix,
-        },
-    ]
+// Whether a block has all addresses of a kind.
+fn has_all(kind: BlockKind, block: Block) -> bool
+    ensures { result ≡ nat_eq (prefix_in kind block.prefix) 0 }
+{
+    match kind {
+        BlockKind::Ipv4 => block.prefix <= 96,
+        BlockKind::Ipv6 => block.prefix == 0,
+    }
+}
+
+// The lower and the upper half of a block.
+fn halves_of(block: Block) -> (Block, Block)
+    requires block { IsBlock block }
+    requires prefix { block.prefix < 128 }
+    ensures lower { result.0 ≡ lower_half block }
+    ensures upper { result.1 ≡ upper_half block }
+{
+    let prefix = block.prefix + 1;
+    let lower = Block {
+        first: block.first,
+        prefix,
+    };
+    let upper = Block {
+        first: block.first + (1 << (128 - prefix)),
+        prefix,
+    };
+    (lower, upper)
 }
 
 impl<'a> List<'a> {
     /// A list without networks. All memory but that of what comes before networks is taken here.
-    pub fn new(alloc: Global, syntax: Syntax<'a>, kinds: Kinds) -> Result<List<'a>, AllocError> {
+    pub fn new(alloc: Global, syntax: Syntax<'a>, kinds: Kinds) -> Result<List<'a>, AllocError>
+        ensures { IfOk result
+            (λ list. listing_of list ≡ no_networks syntax.entry kinds Action.Fill) }
+    {
         List::of_action(alloc, syntax, Action::Fill, kinds)
     }
 
@@ -111,7 +147,10 @@ impl<'a> List<'a> {
         alloc: Global,
         syntax: Syntax<'a>,
         kinds: Kinds,
-    ) -> Result<List<'a>, AllocError> {
+    ) -> Result<List<'a>, AllocError>
+        ensures { IfOk result
+            (λ list. listing_of list ≡ no_networks syntax.entry kinds Action.Remove) }
+    {
         List::of_action(alloc, syntax, Action::Remove, kinds)
     }
 
@@ -121,7 +160,9 @@ impl<'a> List<'a> {
         syntax: Syntax<'a>,
         action: Action,
         kinds: Kinds,
-    ) -> Result<List<'a>, AllocError> {
+    ) -> Result<List<'a>, AllocError>
+        ensures { IfOk result (λ list. listing_of list ≡ no_networks syntax.entry kinds action) }
+    {
         Ok(List {
             alloc,
             syntax,
@@ -137,13 +178,22 @@ impl<'a> List<'a> {
     }
 
     /// Whether nothing was written yet. After `finish` the list has no networks then.
-    pub fn is_empty(&self) -> bool {
+    pub fn is_empty(&self) -> bool
+        ensures { result ≡ not self.now.has_begun }
+    {
         !self.has_begun
     }
 
     /// Writes what comes before all networks, once. The first network does that too, so that a list without networks writes
     /// nothing.
-    pub fn begin<O: Write>(&mut self, out: &mut O) -> Result<(), BlocksError> {
+    pub fn begin<O: Write>(&mut self, out: &mut O) -> Result<(), BlocksError>
+        ensures written { OnOk result (Appends (O.contents out.old) (O.contents out.new)
+            (beginning_left (page_of self.old))) }
+        ensures page { OnOk result (page_of self.new ≡ begun (page_of self.old)) }
+        ensures kind { self.new.kind ≡ self.old.kind }
+        ensures joiner { self.new.joiner ≡ self.old.joiner }
+        ensures failed { IfErr result (WritesNone (O.contents out.old) (O.contents out.new)) }
+    {
         if self.has_begun {
             return Ok(());
         }
@@ -153,7 +203,15 @@ impl<'a> List<'a> {
     }
 
     // Writes what comes before the first network of a kind.
-    fn open<O: Write>(&mut self, kind: BlockKind, out: &mut O) -> Result<(), BlocksError> {
+    fn open<O: Write>(&mut self, kind: BlockKind, out: &mut O) -> Result<(), BlocksError>
+        ensures written { OnOk result (Appends (O.contents out.old) (O.contents out.new)
+            (heading_of (page_of self.old) kind)) }
+        ensures page { OnOk result (page_of self.new ≡ headed (page_of self.old)) }
+        ensures kind { self.new.kind ≡ self.old.kind }
+        ensures joiner { self.new.joiner ≡ self.old.joiner }
+        ensures failed { IfErr result (BreaksOff (heading_of (page_of self.old) kind)
+            (O.contents out.old) (O.contents out.new)) }
+    {
         if self.has_written {
             return Ok(());
         }
@@ -163,7 +221,12 @@ impl<'a> List<'a> {
     }
 
     // Notes that a network of a kind is written.
-    fn note_filled(&mut self, kind: BlockKind) -> Result<(), AllocError> {
+    fn note_filled(&mut self, kind: BlockKind) -> Result<(), AllocError>
+        ensures page { OnOk result (page_of self.new ≡ noted (page_of self.old) kind) }
+        ensures kind { self.new.kind ≡ self.old.kind }
+        ensures joiner { self.new.joiner ≡ self.old.joiner }
+        ensures line { self.new.line ≡ self.old.line }
+    {
         if !self.has_written {
             let action = self.action;
             self.filled.push(Filled { action, kind })?;
@@ -178,7 +241,16 @@ impl<'a> List<'a> {
         kind: BlockKind,
         network: IpNetwork,
         out: &mut O,
-    ) -> Result<(), BlocksError> {
+    ) -> Result<(), BlocksError>
+        ensures written { OnOk result (Appends (O.contents out.old) (O.contents out.new)
+            (printed_one (page_of self.old) kind (short_text_of network))) }
+        ensures page { OnOk result (page_of self.new ≡ with_network (page_of self.old) kind) }
+        ensures kind { self.new.kind ≡ self.old.kind }
+        ensures joiner { self.new.joiner ≡ self.old.joiner }
+        ensures failed { IfErr result (BreaksOff
+            (printed_one (page_of self.old) kind (short_text_of network))
+            (O.contents out.old) (O.contents out.new)) }
+    {
         self.open(kind, out)?;
         self.line.clear();
         self.syntax.push_network(
@@ -192,36 +264,107 @@ impl<'a> List<'a> {
         put(self.line.as_slice(), out)
     }
 
+    // Writes the network of a block.
+    fn put_whole<O: Write>(
+        &mut self,
+        kind: BlockKind,
+        block: Block,
+        out: &mut O,
+    ) -> Result<(), BlocksError>
+        requires { block.prefix ≤ 128 }
+        ensures written { OnOk result (Appends (O.contents out.old) (O.contents out.new)
+            (printed_one (page_of self.old) kind (network_text kind block))) }
+        ensures page { OnOk result (page_of self.new ≡ with_network (page_of self.old) kind) }
+        ensures kind { self.new.kind ≡ self.old.kind }
+        ensures joiner { self.new.joiner ≡ self.old.joiner }
+        ensures failed { IfErr result (BreaksOff
+            (printed_one (page_of self.old) kind (network_text kind block))
+            (O.contents out.old) (O.contents out.new)) }
+    {
+        let network = kind.network_of(block)?;
+        self.put_network(kind, network, out)
+    }
+
+    // Writes the halves of a block.
+    fn put_halves<O: Write>(
+        &mut self,
+        kind: BlockKind,
+        block: Block,
+        out: &mut O,
+    ) -> Result<(), BlocksError>
+        requires block { IsBlock block }
+        requires prefix { block.prefix < 128 }
+        ensures written { OnOk result (Appends (O.contents out.old) (O.contents out.new)
+            (printed_lines (page_of self.old) kind (lower_half block ∷ upper_half block ∷ []))) }
+        ensures page { OnOk result (page_of self.new
+            ≡ with_lines (page_of self.old) kind (lower_half block ∷ upper_half block ∷ [])) }
+        ensures kind { self.new.kind ≡ self.old.kind }
+        ensures joiner { self.new.joiner ≡ self.old.joiner }
+        ensures failed { IfErr result (BreaksOff
+            (printed_lines (page_of self.old) kind (lower_half block ∷ upper_half block ∷ []))
+            (O.contents out.old) (O.contents out.new)) }
+    {
+        let (lower, upper) = halves_of(block);
+        self.put_whole(kind, lower, out)?;
+        self.put_whole(kind, upper, out)
+    }
+
     // Writes a block, or its halves where it has all addresses and those may not be written as one.
     fn put_block<O: Write>(
         &mut self,
         kind: BlockKind,
         block: Block,
         out: &mut O,
-    ) -> Result<(), BlocksError> {
-        let network = kind.network_of(block)?;
-        if network.prefix() > 0 || !self.syntax.halves_all() {
-            return self.put_network(kind, network, out);
+    ) -> Result<(), BlocksError>
+        requires { IsBlock block }
+        ensures written { OnOk result (Appends (O.contents out.old) (O.contents out.new)
+            (printed_lines (page_of self.old) kind (written_for self.old.syntax kind block))) }
+        ensures page { OnOk result (page_of self.new
+            ≡ with_lines (page_of self.old) kind (written_for self.old.syntax kind block)) }
+        ensures kind { self.new.kind ≡ self.old.kind }
+        ensures joiner { self.new.joiner ≡ self.old.joiner }
+        ensures failed { IfErr result (BreaksOff
+            (printed_lines (page_of self.old) kind (written_for self.old.syntax kind block))
+            (O.contents out.old) (O.contents out.new)) }
+    {
+        if self.syntax.halves_all() && has_all(kind, block) {
+            self.put_halves(kind, block, out)
+        } else {
+            self.put_whole(kind, block, out)
         }
-        for half in halves_of(block) {
-            self.put_network(kind, kind.network_of(half)?, out)?;
-        }
-        Ok(())
     }
 
     // Writes the blocks of a kind that nothing can join any more.
-    fn put_settled<O: Write>(&mut self, kind: BlockKind, out: &mut O) -> Result<(), BlocksError> {
+    fn put_settled<O: Write>(&mut self, kind: BlockKind, out: &mut O) -> Result<(), BlocksError>
+        ensures written { OnOk result (Appends (O.contents out.old) (O.contents out.new)
+            (printed (page_of self.old) kind (settled_of self.old.joiner))) }
+        ensures page { OnOk result (page_of self.new
+            ≡ with_blocks (page_of self.old) kind (settled_of self.old.joiner)) }
+        ensures kind { self.new.kind ≡ self.old.kind }
+        ensures joiner { self.new.joiner ≡ self.old.joiner }
+        ensures failed { IfErr result (BreaksOff
+            (printed (page_of self.old) kind (settled_of self.old.joiner))
+            (O.contents out.old) (O.contents out.new)) }
+    {
         for index in 0..self.joiner.settled().len() {
-            if let Some(block) = self.joiner.settled().get(index) {
-                let block = *block;
-                self.put_block(kind, block, out)?;
-            }
+            let block = self.joiner.settled()[index];
+            self.put_block(kind, block, out)?;
         }
         Ok(())
     }
 
     // Writes what is left of a kind.
-    fn end_kind<O: Write>(&mut self, kind: BlockKind, out: &mut O) -> Result<(), BlocksError> {
+    fn end_kind<O: Write>(&mut self, kind: BlockKind, out: &mut O) -> Result<(), BlocksError>
+        ensures written { OnOk result (Appends (O.contents out.old) (O.contents out.new)
+            (printed_rest (page_of self.old) kind (waiting_of self.old.joiner))) }
+        ensures page { OnOk result (page_of self.new
+            ≡ with_rest (page_of self.old) kind (waiting_of self.old.joiner)) }
+        ensures kind { self.new.kind ≡ self.old.kind }
+        ensures waiting { waiting_of self.new.joiner ≡ [] }
+        ensures failed { IfErr result (BreaksOff
+            (printed_rest (page_of self.old) kind (waiting_of self.old.joiner))
+            (O.contents out.old) (O.contents out.new)) }
+    {
         self.joiner.finish();
         self.put_settled(kind, out)?;
         if self.has_written {
@@ -232,7 +375,18 @@ impl<'a> List<'a> {
     }
 
     // Writes what is left of the kind before, where there was one.
-    fn change_to<O: Write>(&mut self, kind: BlockKind, out: &mut O) -> Result<(), BlocksError> {
+    fn change_to<O: Write>(&mut self, kind: BlockKind, out: &mut O) -> Result<(), BlocksError>
+        ensures written { OnOk result (Appends (O.contents out.old) (O.contents out.new)
+            (changed_text (page_of self.old) self.old.kind kind (waiting_of self.old.joiner))) }
+        ensures page { OnOk result (page_of self.new
+            ≡ changed_page (page_of self.old) self.old.kind kind (waiting_of self.old.joiner)) }
+        ensures waiting { OnOk result (waiting_of self.new.joiner
+            ≡ changed_waiting self.old.kind kind (waiting_of self.old.joiner)) }
+        ensures kind { OnOk result (self.new.kind ≡ Some kind) }
+        ensures failed { IfErr result (BreaksOff
+            (changed_text (page_of self.old) self.old.kind kind (waiting_of self.old.joiner))
+            (O.contents out.old) (O.contents out.new)) }
+    {
         if let Some(before) = self.kind {
             if before != kind {
                 self.end_kind(before, out)?;
@@ -244,7 +398,9 @@ impl<'a> List<'a> {
 
     /// Takes the next network, if it is of the kind of the last one, and writes nothing.
     #[inline(always)]
-    pub fn take(&mut self, kind: BlockKind, block: Block) -> Taken {
+    pub fn take(&mut self, kind: BlockKind, block: Block) -> Taken
+        ensures { IsTaken result kind block (listing_of self.old) (listing_of self.new) }
+    {
         if self.kind != Some(kind) {
             return Taken::Not;
         }
@@ -257,7 +413,14 @@ impl<'a> List<'a> {
 
     /// Writes the blocks that nothing can join any more.
     #[inline(never)]
-    pub fn write_settled<O: Write>(&mut self, out: &mut O) -> Result<(), BlocksError> {
+    pub fn write_settled<O: Write>(&mut self, out: &mut O) -> Result<(), BlocksError>
+        ensures written { OnOk result (Appends (O.contents out.old) (O.contents out.new)
+            (settled_text (listing_of self.old))) }
+        ensures list { OnOk result
+            (listing_of self.new ≡ with_settled (listing_of self.old)) }
+        ensures failed { IfErr result (BreaksOff (settled_text (listing_of self.old))
+            (O.contents out.old) (O.contents out.new)) }
+    {
         match self.kind {
             Some(kind) => self.put_settled(kind, out),
             None => Ok(()),
@@ -270,7 +433,13 @@ impl<'a> List<'a> {
         kind: BlockKind,
         block: Block,
         out: &mut O,
-    ) -> Result<(), BlocksError> {
+    ) -> Result<(), BlocksError>
+        ensures pushed { OnOk result (Prints
+            (λ text. IsPushed kind block (listing_of self.old) text (listing_of self.new))
+            (O.contents out.old) (O.contents out.new)) }
+        ensures failed { IfErr result (PushFails kind block (listing_of self.old)
+            (O.contents out.old) (O.contents out.new)) }
+    {
         if !self.kinds.has(kind) {
             return Ok(());
         }
@@ -283,7 +452,16 @@ impl<'a> List<'a> {
     }
 
     /// Writes what is left of the networks.
-    pub fn finish<O: Write>(&mut self, out: &mut O) -> Result<(), BlocksError> {
+    pub fn finish<O: Write>(&mut self, out: &mut O) -> Result<(), BlocksError>
+        ensures written { OnOk result (Appends (O.contents out.old) (O.contents out.new)
+            (finished_text (listing_of self.old))) }
+        ensures page { OnOk result (page_of self.new ≡ finished_page (listing_of self.old)) }
+        ensures kind { OnOk result (self.new.kind ≡ None) }
+        ensures waiting { OnOk result (waiting_of self.new.joiner
+            ≡ rest_waiting self.old.kind (waiting_of self.old.joiner)) }
+        ensures failed { IfErr result (BreaksOff (finished_text (listing_of self.old))
+            (O.contents out.old) (O.contents out.new)) }
+    {
         match self.kind.take() {
             Some(kind) => self.end_kind(kind, out),
             None => Ok(()),
@@ -291,7 +469,17 @@ impl<'a> List<'a> {
     }
 
     /// Writes what is left of the networks that are taken out of sets: those that come next are put in.
-    pub fn go_on_to_add<O: Write>(&mut self, out: &mut O) -> Result<(), BlocksError> {
+    pub fn go_on_to_add<O: Write>(&mut self, out: &mut O) -> Result<(), BlocksError>
+        ensures written { OnOk result (Appends (O.contents out.old) (O.contents out.new)
+            (finished_text (listing_of self.old))) }
+        ensures page { OnOk result (page_of self.new
+            ≡ record (finished_page (listing_of self.old)) { action = Action.Add }) }
+        ensures kind { OnOk result (self.new.kind ≡ None) }
+        ensures waiting { OnOk result (waiting_of self.new.joiner
+            ≡ rest_waiting self.old.kind (waiting_of self.old.joiner)) }
+        ensures failed { IfErr result (BreaksOff (finished_text (listing_of self.old))
+            (O.contents out.old) (O.contents out.new)) }
+    {
         self.finish(out)?;
         self.action = Action::Add;
         Ok(())
@@ -299,7 +487,12 @@ impl<'a> List<'a> {
 
     /// Writes what comes after all networks of a list that is whole: without it no program loads it, but for one network a
     /// line. Of changes without networks that is nothing.
-    pub fn end<O: Write>(&mut self, out: &mut O) -> Result<(), BlocksError> {
+    pub fn end<O: Write>(&mut self, out: &mut O) -> Result<(), BlocksError>
+        ensures written { OnOk result (Prints (IsEndOf (page_of self.old))
+            (O.contents out.old) (O.contents out.new)) }
+        ensures failed { IfErr result (WritesNone (O.contents out.old) (O.contents out.new)) }
+        ensures list { listing_of self.new ≡ listing_of self.old }
+    {
         if self.action != Action::Fill && self.filled.is_empty() {
             return Ok(());
         }
@@ -309,7 +502,12 @@ impl<'a> List<'a> {
 
     /// Writes what comes after the networks of a list that is not whole, in place of `end`: no program loads it, but for one
     /// network a line.
-    pub fn break_off<O: Write>(&mut self, out: &mut O) -> Result<(), BlocksError> {
+    pub fn break_off<O: Write>(&mut self, out: &mut O) -> Result<(), BlocksError>
+        ensures written { OnOk result (Appends (O.contents out.old) (O.contents out.new)
+            (breaking_of self.old.syntax)) }
+        ensures failed { IfErr result IsOfOutput }
+        ensures list { listing_of self.new ≡ listing_of self.old }
+    {
         put(self.syntax.breaking().as_bytes(), out)
     }
 }

@@ -1,4 +1,10 @@
 //! How a list of networks is written.
+ghost use Rattle.std.specs.Prelude.{◌≡◌, ◌++◌, not, IfOk, OnOk, codes};
+ghost use Rattle.std.specs.String.{string_bytes};
+ghost use Rattle.mmdb_net.specs.Network.{short_text_of};
+ghost use Rattle.mmdb_blocks.specs.Texts.{set_of, sign_of, option_of, definition_of, ipset_command, ipset_front, ipset_back, ipset_type_of, line_of, opening_of, closing_of, breaking_of, making_of, head_of, beginning_of, between_elements, of_wanted, of_kinds, ipset_line_of, swaps_of, IsEnding};
+ghost use Rattle.mmdb_blocks.specs.Lists.{takes_all};
+
 use crate::kind::{BlockKind, Kinds};
 use mmdb_net::IpNetwork;
 use std::alloc::{AllocError, Global};
@@ -103,7 +109,9 @@ pub fn is_list_value(value: &str) -> bool {
 }
 
 // What follows a name for the set of a kind.
-fn suffix(kind: BlockKind) -> &'static str {
+fn suffix(kind: BlockKind) -> &'static str
+    ensures { result.now ≡ set_of kind }
+{
     match kind {
         BlockKind::Ipv4 => "ipv4",
         BlockKind::Ipv6 => "ipv6",
@@ -111,7 +119,9 @@ fn suffix(kind: BlockKind) -> &'static str {
 }
 
 // What lets only the program of a kind take a rule.
-fn rule_kind(kind: BlockKind) -> &'static str {
+fn rule_kind(kind: BlockKind) -> &'static str
+    ensures { result.now ≡ option_of kind }
+{
     match kind {
         BlockKind::Ipv4 => " -4 -s ",
         BlockKind::Ipv6 => " -6 -s ",
@@ -119,15 +129,40 @@ fn rule_kind(kind: BlockKind) -> &'static str {
 }
 
 // Adds a text.
-fn push_text(text: &str, line: &mut Vec<u8>) -> Result<(), AllocError> {
+fn push_text(text: &str, line: &mut Vec<u8>) -> Result<(), AllocError>
+    ensures { OnOk result (line.new.items ≡ line.old.items ++ text.now) }
+{
     line.extend_from_slice(text.as_bytes())
 }
 
 // Adds a network and the end of its line.
-fn push_whole(network: IpNetwork, line: &mut Vec<u8>) -> Result<(), AllocError> {
+fn push_whole(network: IpNetwork, line: &mut Vec<u8>) -> Result<(), AllocError>
+    ensures { OnOk result
+        (line.new.items ≡ line.old.items ++ (short_text_of network ++ codes "\n")) }
+{
     network.push_text(line)?;
     line.push(b'\n')?;
     Ok(())
+}
+
+// Adds a network and the end of its line, and before it the sign of a change.
+fn push_signed(action: Action, network: IpNetwork, line: &mut Vec<u8>) -> Result<(), AllocError>
+    ensures { OnOk result (line.new.items
+        ≡ line.old.items ++ (sign_of action ++ short_text_of network ++ codes "\n")) }
+{
+    action.push_sign(line)?;
+    push_whole(network, line)
+}
+
+// Adds an element of a definition, the first or another one.
+fn push_element(is_first: bool, network: IpNetwork, line: &mut Vec<u8>) -> Result<(), AllocError>
+    ensures { OnOk result (line.new.items
+        ≡ line.old.items ++ (between_elements is_first ++ short_text_of network)) }
+{
+    if !is_first {
+        line.extend_from_slice(b",\n")?;
+    }
+    network.push_text(line)
 }
 
 // Adds a network between two texts.
@@ -136,7 +171,10 @@ fn push_between(
     network: IpNetwork,
     behind: &str,
     line: &mut Vec<u8>,
-) -> Result<(), AllocError> {
+) -> Result<(), AllocError>
+    ensures { OnOk result
+        (line.new.items ≡ line.old.items ++ (before.now ++ short_text_of network ++ behind.now)) }
+{
     push_text(before, line)?;
     network.push_text(line)?;
     push_text(behind, line)
@@ -149,7 +187,11 @@ fn push_member(
     kind: BlockKind,
     network: IpNetwork,
     line: &mut Vec<u8>,
-) -> Result<(), AllocError> {
+) -> Result<(), AllocError>
+    ensures { OnOk result (line.new.items
+        ≡ line.old.items ++ (ipset_command action ++ name.now ++ codes "_" ++ set_of kind
+        ++ ipset_front action ++ short_text_of network ++ ipset_back action)) }
+{
     let (command, before, behind) = action.of_ipset();
     push_text(command, line)?;
     push_text(name, line)?;
@@ -165,7 +207,11 @@ fn push_rule(
     network: IpNetwork,
     target: &str,
     line: &mut Vec<u8>,
-) -> Result<(), AllocError> {
+) -> Result<(), AllocError>
+    ensures { OnOk result (line.new.items
+        ≡ line.old.items ++ (codes "-A " ++ chain.now ++ option_of kind ++ short_text_of network
+        ++ (codes " -j " ++ target.now ++ codes "\n"))) }
+{
     push_text("-A ", line)?;
     push_text(chain, line)?;
     push_between(rule_kind(kind), network, " -j ", line)?;
@@ -180,7 +226,11 @@ fn push_with_value(
     value: &str,
     behind: &str,
     line: &mut Vec<u8>,
-) -> Result<(), AllocError> {
+) -> Result<(), AllocError>
+    ensures { OnOk result (line.new.items
+        ≡ line.old.items ++ (before.now ++ short_text_of network
+        ++ (codes " " ++ value.now ++ behind.now))) }
+{
     push_between(before, network, " ", line)?;
     push_text(value, line)?;
     push_text(behind, line)
@@ -200,8 +250,25 @@ fn nft_set(
     )
 }
 
+// The beginning of the definition with the elements of a set of nft.
+fn nft_opening(
+    alloc: Global,
+    name: &str,
+    kind: BlockKind,
+    action: Action,
+) -> Result<String, AllocError>
+    ensures { IfOk result (λ text. string_bytes text
+        ≡ codes "define " ++ name.now ++ codes "_" ++ set_of kind ++ definition_of action
+        ++ codes " = {\n") }
+{
+    let (set, which) = (suffix(kind), action.of_definition());
+    format!(in alloc; "define {name}_{set}{which} = {{\n")
+}
+
 // The type of a set of ipset, with room for each network.
-fn ipset_type(alloc: Global, kind: BlockKind) -> Result<String, AllocError> {
+fn ipset_type(alloc: Global, kind: BlockKind) -> Result<String, AllocError>
+    ensures { IfOk result (λ text. string_bytes text ≡ ipset_type_of kind) }
+{
     let family = match kind {
         BlockKind::Ipv4 => "inet",
         BlockKind::Ipv6 => "inet6",
@@ -210,12 +277,16 @@ fn ipset_type(alloc: Global, kind: BlockKind) -> Result<String, AllocError> {
 }
 
 // The line that makes a new set for ipset. It is an error where one is there, which a list left that was cut.
-fn ipset_new(alloc: Global, name: &str, kind: BlockKind) -> Result<String, AllocError> {
+fn ipset_new(alloc: Global, name: &str, kind: BlockKind) -> Result<String, AllocError>
+    ensures { IfOk result (λ text. string_bytes text
+        ≡ codes "create " ++ name.now ++ codes "_" ++ set_of kind ++ codes ".new "
+        ++ ipset_type_of kind ++ codes "\n") }
+{
     let (set, made) = (suffix(kind), ipset_type(alloc, kind)?);
     format!(in alloc; "create {name}_{set}.new {made}\n")
 }
 
-/// What the last lines of a list for ipset do with a kind of addresses.
+/// What the last lines of a list for ipset do with a kind of addresses, in this order.
 #[derive(Clone, Copy)]
 enum IpsetStep {
     /// The set is made, if it is not there.
@@ -226,8 +297,15 @@ enum IpsetStep {
     Destroy,
 }
 
-/// These in their order.
-const IPSET_STEPS: [IpsetStep; 3] = [IpsetStep::Make, IpsetStep::Swap, IpsetStep::Destroy];
+// The line by which a set is made, if it is not there.
+fn ipset_made(alloc: Global, name: &str, kind: BlockKind) -> Result<String, AllocError>
+    ensures { IfOk result (λ text. string_bytes text
+        ≡ codes "create " ++ name.now ++ codes "_" ++ set_of kind ++ codes " "
+        ++ ipset_type_of kind ++ codes " -exist\n") }
+{
+    let (set, made) = (suffix(kind), ipset_type(alloc, kind)?);
+    format!(in alloc; "create {name}_{set} {made} -exist\n")
+}
 
 // The line of a step. Within quotes a line that is cut is an error: `destroy` alone takes away every set.
 fn ipset_line(
@@ -235,25 +313,58 @@ fn ipset_line(
     step: IpsetStep,
     name: &str,
     kind: BlockKind,
-) -> Result<String, AllocError> {
-    let (set, made) = (suffix(kind), ipset_type(alloc, kind)?);
+) -> Result<String, AllocError>
+    ensures { IfOk result (λ text. string_bytes text ≡ ipset_line_of step name.now kind) }
+{
+    let set = suffix(kind);
     match step {
-        IpsetStep::Make => format!(in alloc; "create {name}_{set} {made} -exist\n"),
+        IpsetStep::Make => ipset_made(alloc, name, kind),
         IpsetStep::Swap => format!(in alloc; "swap {name}_{set}.new \"{name}_{set}\"\n"),
         IpsetStep::Destroy => format!(in alloc; "\"destroy\" \"{name}_{set}.new\"\n"),
     }
 }
 
-// The lines that put the new sets of ipset of the wanted kinds in the place of the old ones, and take those away.
-fn ipset_swaps(alloc: Global, name: &str, kinds: Kinds) -> Result<String, AllocError> {
-    let mut text = String::new(alloc);
-    for step in IPSET_STEPS {
-        for kind in KINDS {
-            if kinds.has(kind) {
-                text.push_str(ipset_line(alloc, step, name, kind)?.as_str())?;
-            }
-        }
+// Adds the line of a step, where its kind is wanted.
+fn push_step(
+    alloc: Global,
+    step: IpsetStep,
+    name: &str,
+    kinds: Kinds,
+    kind: BlockKind,
+    text: &mut String,
+) -> Result<(), AllocError>
+    ensures { OnOk result (string_bytes text.new
+        ≡ string_bytes text.old ++ of_wanted kinds (ipset_line_of step name.now) kind) }
+{
+    if kinds.has(kind) {
+        text.push_str(ipset_line(alloc, step, name, kind)?.as_str())?;
     }
+    Ok(())
+}
+
+// Adds the lines of a step for each wanted kind.
+fn push_steps(
+    alloc: Global,
+    step: IpsetStep,
+    name: &str,
+    kinds: Kinds,
+    text: &mut String,
+) -> Result<(), AllocError>
+    ensures { OnOk result (string_bytes text.new
+        ≡ string_bytes text.old ++ of_kinds kinds (ipset_line_of step name.now)) }
+{
+    push_step(alloc, step, name, kinds, BlockKind::Ipv4, text)?;
+    push_step(alloc, step, name, kinds, BlockKind::Ipv6, text)
+}
+
+// The lines that put the new sets of ipset of the wanted kinds in the place of the old ones, and take those away.
+fn ipset_swaps(alloc: Global, name: &str, kinds: Kinds) -> Result<String, AllocError>
+    ensures { IfOk result (λ text. string_bytes text ≡ swaps_of name.now kinds) }
+{
+    let mut text = String::new(alloc);
+    push_steps(alloc, IpsetStep::Make, name, kinds, &mut text)?;
+    push_steps(alloc, IpsetStep::Swap, name, kinds, &mut text)?;
+    push_steps(alloc, IpsetStep::Destroy, name, kinds, &mut text)?;
     Ok(text)
 }
 
@@ -274,7 +385,9 @@ impl Action {
     }
 
     // What follows the name of a set in that of the definition with its elements.
-    fn of_definition(self) -> &'static str {
+    fn of_definition(self) -> &'static str
+        ensures { result.now ≡ definition_of self }
+    {
         match self {
             Action::Fill => "",
             Action::Remove => "_removed",
@@ -284,7 +397,11 @@ impl Action {
 
     // What ipset does with a network, what follows the name of the set, and what follows the network. Where the set has or lacks
     // the network already, a change goes on.
-    fn of_ipset(self) -> (&'static str, &'static str, &'static str) {
+    fn of_ipset(self) -> (&'static str, &'static str, &'static str)
+        ensures command { result.0.now ≡ ipset_command self }
+        ensures before { result.1.now ≡ ipset_front self }
+        ensures behind { result.2.now ≡ ipset_back self }
+    {
         match self {
             Action::Fill => ("add ", ".new ", "\n"),
             Action::Add => ("add ", " ", " -exist\n"),
@@ -293,7 +410,9 @@ impl Action {
     }
 
     // Adds what comes before a network of a line of its own.
-    fn push_sign(self, line: &mut Vec<u8>) -> Result<(), AllocError> {
+    fn push_sign(self, line: &mut Vec<u8>) -> Result<(), AllocError>
+        ensures { OnOk result (line.new.items ≡ line.old.items ++ sign_of self) }
+    {
         match self {
             Action::Fill => {}
             Action::Remove => line.push(b'-')?,
@@ -360,7 +479,9 @@ fn nft_commands(
 
 impl Syntax<'_> {
     // What comes before all sets and networks.
-    fn head(&self, alloc: Global) -> Result<String, AllocError> {
+    fn head(&self, alloc: Global) -> Result<String, AllocError>
+        ensures { IfOk result (λ text. string_bytes text ≡ head_of self.now) }
+    {
         match self {
             Syntax::Iptables { chain, .. } => format!(in alloc; "*filter\n:{chain} - [0:0]\n"),
             Syntax::Nginx { variable, .. } => format!(in alloc; "geo ${variable} {{\n"),
@@ -369,21 +490,39 @@ impl Syntax<'_> {
     }
 
     // What comes before the networks of a set of ipset.
-    fn set(&self, alloc: Global, kind: BlockKind) -> Result<String, AllocError> {
+    fn set(&self, alloc: Global, kind: BlockKind) -> Result<String, AllocError>
+        ensures { IfOk result (λ text. string_bytes text ≡ making_of self.now kind) }
+    {
         match self {
             Syntax::Ipset { name } => ipset_new(alloc, *name, kind),
             _ => Ok(String::new(alloc)),
         }
     }
 
-    /// What comes before all networks.
-    pub(crate) fn beginning(&self, alloc: Global, kinds: Kinds) -> Result<String, AllocError> {
-        let mut text = self.head(alloc)?;
-        for kind in KINDS {
-            if kinds.has(kind) {
-                text.push_str(self.set(alloc, kind)?.as_str())?;
-            }
+    // Adds what comes before the networks of a set of ipset, where its kind is wanted.
+    fn push_set(
+        &self,
+        alloc: Global,
+        kinds: Kinds,
+        kind: BlockKind,
+        text: &mut String,
+    ) -> Result<(), AllocError>
+        ensures { OnOk result (string_bytes text.new
+            ≡ string_bytes text.old ++ of_wanted kinds (making_of self.now) kind) }
+    {
+        if kinds.has(kind) {
+            text.push_str(self.set(alloc, kind)?.as_str())?;
         }
+        Ok(())
+    }
+
+    /// What comes before all networks.
+    pub(crate) fn beginning(&self, alloc: Global, kinds: Kinds) -> Result<String, AllocError>
+        ensures { IfOk result (λ text. string_bytes text ≡ beginning_of self.now kinds) }
+    {
+        let mut text = self.head(alloc)?;
+        self.push_set(alloc, kinds, BlockKind::Ipv4, &mut text)?;
+        self.push_set(alloc, kinds, BlockKind::Ipv6, &mut text)?;
         Ok(text)
     }
 
@@ -393,18 +532,19 @@ impl Syntax<'_> {
         alloc: Global,
         kind: BlockKind,
         action: Action,
-    ) -> Result<String, AllocError> {
+    ) -> Result<String, AllocError>
+        ensures { IfOk result (λ text. string_bytes text ≡ opening_of self.now kind action) }
+    {
         match self {
-            Syntax::Nft { name, .. } => {
-                let (set, which) = (suffix(kind), action.of_definition());
-                format!(in alloc; "define {name}_{set}{which} = {{\n")
-            }
+            Syntax::Nft { name, .. } => nft_opening(alloc, *name, kind, action),
             _ => Ok(String::new(alloc)),
         }
     }
 
     /// What comes after the last network of a kind.
-    pub(crate) fn closing(&self) -> &'static str {
+    pub(crate) fn closing(&self) -> &'static str
+        ensures { result.now ≡ closing_of self.now }
+    {
         match self {
             Syntax::Nft { .. } => "\n}\n",
             _ => "",
@@ -418,7 +558,9 @@ impl Syntax<'_> {
         kinds: Kinds,
         action: Action,
         filled: &[Filled],
-    ) -> Result<String, AllocError> {
+    ) -> Result<String, AllocError>
+        ensures { IfOk result (λ text. IsEnding self.now kinds action (string_bytes text)) }
+    {
         match self {
             Syntax::Nft {
                 family,
@@ -434,7 +576,9 @@ impl Syntax<'_> {
 
     /// What comes after the networks of a list that is not whole, so that it is not loaded: of most what ends them is
     /// missing.
-    pub(crate) fn breaking(&self) -> &'static str {
+    pub(crate) fn breaking(&self) -> &'static str
+        ensures { result.now ≡ breaking_of self.now }
+    {
         match self {
             Syntax::Haproxy { .. } | Syntax::Pf => NO_ADDRESS,
             _ => "",
@@ -452,27 +596,6 @@ impl Syntax<'_> {
         texts.saturating_add(LINE_BYTES)
     }
 
-    // Adds a network of a kind with a line of its own.
-    fn push_line(
-        &self,
-        kind: BlockKind,
-        action: Action,
-        network: IpNetwork,
-        line: &mut Vec<u8>,
-    ) -> Result<(), AllocError> {
-        match self {
-            Syntax::Cidr => {
-                action.push_sign(line)?;
-                push_whole(network, line)
-            }
-            Syntax::Nft { .. } | Syntax::Pf => push_whole(network, line),
-            Syntax::Ipset { name } => push_member(action, *name, kind, network, line),
-            Syntax::Iptables { chain, target } => push_rule(*chain, kind, network, *target, line),
-            Syntax::Nginx { value, .. } => push_with_value("    ", network, *value, ";\n", line),
-            Syntax::Haproxy { value } => push_with_value("", network, *value, "\n", line),
-        }
-    }
-
     /// Adds a network of a kind, the first of its kind or another one.
     pub(crate) fn push_network(
         &self,
@@ -481,21 +604,26 @@ impl Syntax<'_> {
         is_first: bool,
         network: IpNetwork,
         line: &mut Vec<u8>,
-    ) -> Result<(), AllocError> {
+    ) -> Result<(), AllocError>
+        ensures { OnOk result (line.new.items
+            ≡ line.old.items ++ line_of self.now kind action is_first (short_text_of network)) }
+    {
         match self {
-            Syntax::Nft { .. } if is_first => network.push_text(line),
-            Syntax::Nft { .. } => {
-                line.push(b',')?;
-                line.push(b'\n')?;
-                network.push_text(line)
-            }
-            _ => self.push_line(kind, action, network, line),
+            Syntax::Nft { .. } => push_element(is_first, network, line),
+            Syntax::Cidr => push_signed(action, network, line),
+            Syntax::Pf => push_whole(network, line),
+            Syntax::Ipset { name } => push_member(action, *name, kind, network, line),
+            Syntax::Iptables { chain, target } => push_rule(*chain, kind, network, *target, line),
+            Syntax::Nginx { value, .. } => push_with_value("    ", network, *value, ";\n", line),
+            Syntax::Haproxy { value } => push_with_value("", network, *value, "\n", line),
         }
     }
 
     /// Whether a block of all addresses of a kind has to be written as its halves: a set of `hash:net` takes no prefix
     /// of 0.
-    pub(crate) fn halves_all(&self) -> bool {
+    pub(crate) fn halves_all(&self) -> bool
+        ensures { result ≡ not (takes_all self.now) }
+    {
         matches!(self, Syntax::Ipset { .. })
     }
 }

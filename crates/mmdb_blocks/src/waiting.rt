@@ -1,5 +1,6 @@
 //! The blocks that wait to be joined with what comes: each is smaller than the one before.
 ghost use Rattle.std.specs.Prelude.{◌≡◌, ◌<◌, ◌≤◌, ◌↔◌, List, [], ◌∷◌, ◌++◌, IsTrue, MatchOption, vec_len};
+ghost use Rattle.std.specs.List.{AllByRecursion};
 ghost use Rattle.std.specs.Vec.{vec_capacity};
 ghost use Rattle.mmdb_blocks.specs.Blocks.{IsBlock, AreHalves, end, whole};
 ghost use Rattle.mmdb_blocks.specs.Joining.{IsReady, IsJoining, most_waiting};
@@ -80,6 +81,7 @@ pub(crate) fn add(waiting: &mut Vec<Block>, settled: &mut Vec<Block>, block: Blo
     requires room { (vec_capacity waiting.old ≡ most_waiting)
         × (vec_capacity settled.old ≡ most_waiting) }
     ensures ready { IsReady waiting.new.items }
+    ensures settled { AllByRecursion IsBlock settled.new.items }
     ensures joining { (pushed handed : List SpecBlock)
         → IsPending pushed handed waiting.old.items block
         → IsJoining pushed (handed ++ settled.new.items) waiting.new.items }

@@ -1,2 +1,3 @@
 mod ChosenLaws
 mod GatheredLaws
+mod ListedLaws

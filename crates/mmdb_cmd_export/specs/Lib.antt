@@ -2,3 +2,4 @@
 pub mod Gathered
 pub mod Chosen
 pub mod Written
+pub mod Listed

@@ -89,7 +89,7 @@ pub(crate) fn note_absent_path<O: Write, E: Write>(
         alloc: console.alloc,
         condition: presence_at(console.alloc, path)?,
         is_met: false,
-        first: FirstRecords::new(console.alloc, several)?,
+        first: FirstRecords::new(console.alloc, several),
     };
     match several.look(console.alloc, Kinds::Both, &mut looked) {
         Ok(()) => looked.note(path, console),

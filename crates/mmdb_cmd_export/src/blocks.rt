@@ -1,4 +1,8 @@
 //! Lists of the fewest blocks.
+ghost use Rattle.std.specs.Prelude.{◌≡◌, OnOk, IfErr};
+ghost use Rattle.mmdb_blocks.specs.Lists.{listing_of, Prints};
+ghost use Rattle.mmdb_cmd_export.specs.Listed.{list_result, IsFinished, MayEnd, EndFails};
+
 use crate::clip::Clip;
 use mmdb_blocks::{BlockKind, BlocksError, Kinds, List, Syntax, Taken};
 use mmdb_console::ProgramError;
@@ -18,7 +22,9 @@ pub(crate) struct Blocks<'a> {
 
 /// What a list answered, as the program reports it.
 #[inline(always)]
-pub(crate) fn of_list(done: Result<(), BlocksError>) -> Result<(), ProgramError> {
+pub(crate) fn of_list(done: Result<(), BlocksError>) -> Result<(), ProgramError>
+    ensures { result ≡ list_result done }
+{
     match done {
         Ok(()) => Ok(()),
         Err(BlocksError::Write(error)) => Err(ProgramError::Write(error)),
@@ -34,7 +40,13 @@ pub(crate) fn end_list<O: Write>(
     may_be_empty: bool,
     is_whole: bool,
     out: &mut O,
-) -> Result<(), ProgramError> {
+) -> Result<(), ProgramError>
+    ensures ended { OnOk result (Prints (IsFinished (listing_of list.old) is_whole)
+        (O.contents out.old) (O.contents out.new)) }
+    ensures may_end { OnOk result (MayEnd (listing_of list.old) may_be_empty) }
+    ensures failed { IfErr result (EndFails (listing_of list.old) may_be_empty
+        (O.contents out.old) (O.contents out.new)) }
+{
     of_list(list.finish(out))?;
     if list.is_empty() && !may_be_empty {
         return Err(ProgramError::EmptyList);

@@ -1,10 +1,11 @@
 //! The addresses of chosen networks, gathered.
-ghost use Rattle.std.specs.Prelude.{◌↔◌, ◌⊎◌, ◌<◌, ◌^◌, ℕ, IfOk};
+ghost use Rattle.std.specs.Prelude.{◌≡◌, ◌↔◌, ◌⊎◌, ◌<◌, ◌^◌, ℕ, IfOk};
 ghost use Rattle.mmdb_blocks.specs.Blocks.{IsIn, IsJoined};
 ghost use Rattle.mmdb_blocks.specs.Ranges.{IsAmong};
 ghost use Rattle.mmdb_query.specs.Parts.{ComesInPart};
 ghost use Rattle.mmdb_query.specs.Sets.{IsGathered};
 ghost use Rattle.mmdb_cmd_export.specs.Gathered.{IsMapped, IsListedOf, gathered_of};
+ghost use Rattle.mmdb_cmd_export.specs.Listed.{ranges_error};
 
 use crate::missing::are_values_met;
 use crate::reports::{AskedOfRecords, Reports};
@@ -14,7 +15,7 @@ use crate::task::ExportTask;
 use mmdb_blocks::{Block, BlockKind, BlockRange, Kinds, Ranges, RangesError, listed_blocks};
 use mmdb_console::{Console, Pace, ProgramError};
 use mmdb_layout::networks_in;
-use mmdb_query::{Addresses as Chosen, Many, One, Part, QueryError, Walk, gather};
+use mmdb_query::{Addresses as Chosen, Many, One, QueryError, Walk, gather_part};
 use mmdb_query_forms::AllOf;
 use mmdb_reader::IpNetwork;
 use std::alloc::{AllocError, Global};
@@ -28,7 +29,9 @@ pub(crate) struct Addresses {
 }
 
 /// What ranges answered, as the program reports it.
-pub(crate) fn of_ranges(error: RangesError) -> ProgramError {
+pub(crate) fn of_ranges(error: RangesError) -> ProgramError
+    ensures { result ≡ ranges_error error }
+{
     match error {
         RangesError::OutOfOrder => ProgramError::OutOfOrder,
         RangesError::Memory => ProgramError::Memory,
@@ -155,12 +158,7 @@ impl<'x, 'd> Listed<'x, 'd> {
         let conditions = AllOf {
             conditions: self.task.conditions.as_slice(),
         };
-        let mut part = Part {
-            walk,
-            kinds: self.kinds,
-            range,
-        };
-        gather(alloc, &mut part, &conditions, reports)
+        gather_part(alloc, walk, self.kinds, range, &conditions, reports)
     }
 
     // Gathers the addresses of the chosen networks of the databases.

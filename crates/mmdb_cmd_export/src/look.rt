@@ -9,7 +9,7 @@ use mmdb_reader::MaxMindDbError;
 use std::alloc::{AllocError, Global};
 
 /// What of records was looked at is known of so many at most.
-const MOST_KNOWN: usize = 8192;
+const MOST_KNOWN: usize = 65_536;
 
 /// Looks at what databases have in networks.
 pub(crate) trait Look {
@@ -49,6 +49,7 @@ pub(crate) fn look_along<W: Walk + Drop, L: Look>(
                 if !is_known(&mut known, &answer) && !looker.look(&answer)? {
                     return Ok(());
                 }
+                part.give_back(answer);
             }
             Some(Err(MaxMindDbError::Memory)) => return Err(ProgramError::Memory),
             Some(Err(_error)) => {}
@@ -69,20 +70,19 @@ pub(crate) struct FirstRecords<'d> {
 }
 
 impl<'d> FirstRecords<'d> {
-    /// None yet, of these databases.
-    pub(crate) fn new(
-        alloc: Global,
-        several: &Several<'d>,
-    ) -> Result<FirstRecords<'d>, AllocError> {
-        let mut sections = Vec::with_capacity(alloc, several.asked_count())?;
+    /// None yet, of these databases, or of the first of them where there is no memory for more.
+    pub(crate) fn new(alloc: Global, several: &Several<'d>) -> FirstRecords<'d> {
+        let mut sections = Vec::new(alloc);
         for place in 0..several.asked_count() {
-            sections.push(several.section_at(place))?;
+            if sections.push(several.section_at(place)).is_err() {
+                break;
+            }
         }
-        Ok(FirstRecords {
+        FirstRecords {
             sections,
             places: Vec::new(alloc),
             records: Vec::new(alloc),
-        })
+        }
     }
 
     // Adds where a record of the database at a place is, unless that is there, or there are enough.

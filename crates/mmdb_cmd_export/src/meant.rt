@@ -125,7 +125,7 @@ impl<'a, 'd> Seekers<'a, 'd> {
         Ok(Seekers {
             alloc,
             seekers: Vec::new(alloc),
-            first: FirstRecords::new(alloc, several)?,
+            first: FirstRecords::new(alloc, several),
             count: 0,
         })
     }

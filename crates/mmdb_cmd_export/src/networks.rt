@@ -101,9 +101,8 @@ fn export_adjusted<O: Write, E: Pace>(
         console.alloc,
         listed.task,
         syntax,
-        &gathered.chosen,
+        &gathered,
         adjustment,
-        gathered.faults == 0,
         console.out,
     )?;
     report_faults(gathered.faults, console)

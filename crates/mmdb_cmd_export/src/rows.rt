@@ -290,7 +290,7 @@ impl<'x, 'd> RowTask<'x, 'd> {
         let mut chosen = ChosenRecords {
             alloc: self.alloc,
             conditions: self.task.conditions.as_slice(),
-            first: FirstRecords::new(self.alloc, self.several)?,
+            first: FirstRecords::new(self.alloc, self.several),
         };
         // where they can't be looked at, no other field is named
         let _ = self.several.look(self.alloc, self.task.kinds, &mut chosen);

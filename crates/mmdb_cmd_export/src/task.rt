@@ -1,4 +1,7 @@
 //! What `export` is asked for.
+ghost use Rattle.std.specs.Prelude.{◌≡◌};
+ghost use Rattle.mmdb_cmd_export.specs.Listed.{may_lack_of};
+
 use crate::conditions::{NamedValue, conditions_of, named_values};
 use crate::inputs::ValueFile;
 use crate::names::{fault_of_name, fault_of_table};
@@ -38,7 +41,9 @@ pub(crate) struct ExportTask<'a> {
 
 impl ExportTask<'_> {
     /// Whether a list may lack networks: one of plain blocks empties no set.
-    pub(crate) fn may_lack(&self) -> bool {
+    pub(crate) fn may_lack(&self) -> bool
+        ensures { result ≡ may_lack_of self.now.shape }
+    {
         matches!(self.shape, Shape::List(Syntax::Cidr))
     }
 

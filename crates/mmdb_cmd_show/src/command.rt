@@ -1,7 +1,9 @@
 //! The command `show`.
+ghost use Rattle.std.specs.Prelude.{◌≡◌, ◌⊎◌, ◌↔◌};
+
 use crate::answer::{ADDRESS, AddressRecords, AddressValues, DatabaseAnswer, Shown};
 use crate::asked::AskedTexts;
-use crate::databases::{ShownDatabase, answers_of, lookup_in, name_at_fault, shown_databases};
+use crate::databases::{ReadError, ShownDatabase, answers_of, lookup_in, shown_databases};
 use mmdb_arguments::{NoRequest, ShowArguments};
 use mmdb_console::{BAD_ARGUMENTS, Console, DONE, FAILED, NOT_FOUND, ProgramError};
 use mmdb_layout::{
@@ -48,7 +50,7 @@ struct Asking<'d, 'a> {
     lines: bool,
 }
 
-impl Asking<'_, '_> {
+impl<'d> Asking<'d, '_> {
     // Adds what is shown of the values of an address, and answers whether nothing was missing.
     fn put_shown(
         &self,
@@ -56,7 +58,7 @@ impl Asking<'_, '_> {
         address: IpAddr,
         shown: Shown<'_, '_>,
         out: &mut Vec<u8>,
-    ) -> Result<bool, MaxMindDbError> {
+    ) -> Result<bool, ReadError<'d>> {
         let values = AddressValues {
             alloc,
             address,
@@ -72,7 +74,7 @@ impl Asking<'_, '_> {
         alloc: Global,
         address: IpAddr,
         out: &mut Vec<u8>,
-    ) -> Result<bool, MaxMindDbError> {
+    ) -> Result<bool, ReadError<'d>> {
         let fields = &self.task.fields;
         if fields.is_named {
             return self.put_shown(alloc, address, Shown::Values(fields), out);
@@ -111,24 +113,31 @@ fn put_answers<'d>(
 fn name_of(
     alloc: Global,
     asking: &Asking<'_, '_>,
-    name: Option<&str>,
+    name: &str,
     address: IpAddr,
 ) -> Result<String, AllocError> {
-    match name {
-        Some(name) if asking.are_several => format!(in alloc; "{name}: {address}"),
-        _ => address.to_string(alloc),
+    if asking.are_several {
+        return format!(in alloc; "{name}: {address}");
     }
+    address.to_string(alloc)
 }
 
-// What an error of the values of an address is said of.
-fn place_of_fault(
-    alloc: Global,
+// Reports why the values of an address can't be read.
+fn report_unread<O: Write, E: Write>(
     asking: &Asking<'_, '_>,
     address: IpAddr,
-) -> Result<String, AllocError> {
-    let paths = asking.task.fields.paths.as_slice();
-    let name = name_at_fault(alloc, asking.databases, address, paths);
-    name_of(alloc, asking, name, address)
+    error: &ReadError<'_>,
+    console: &mut Console<'_, O, E>,
+) -> Result<(), ProgramError> {
+    match error {
+        ReadError::Memory => console.report_behind(
+            address.to_string(console.alloc),
+            &MaxMindDbError::Memory,
+        ),
+        ReadError::Unread(name, error) => {
+            console.report_behind(name_of(console.alloc, asking, *name, address), error)
+        }
+    }
 }
 
 // Writes the values that were made for an address, reports its error if it has one, and answers the status of it.
@@ -136,7 +145,7 @@ fn put_made<O: Write, E: Write>(
     asking: &Asking<'_, '_>,
     address: IpAddr,
     text: &[u8],
-    shown: &Result<bool, MaxMindDbError>,
+    shown: &Result<bool, ReadError<'_>>,
     console: &mut Console<'_, O, E>,
 ) -> Result<u8, ProgramError> {
     console.put(text)?;
@@ -144,7 +153,7 @@ fn put_made<O: Write, E: Write>(
         Ok(true) => Ok(DONE),
         Ok(false) => Ok(NOT_FOUND),
         Err(error) => {
-            console.report_behind(place_of_fault(console.alloc, asking, address), error)?;
+            report_unread(asking, address, error, console)?;
             Ok(FAILED)
         }
     }
@@ -162,7 +171,7 @@ fn show_records<O: Write, E: Write>(
     let has_record = put_answers(alloc, asking, address, found.answers.as_slice(), &mut text)?;
     console.put(text.as_slice())?;
     for (name, error) in &found.errors {
-        console.report_behind(name_of(alloc, asking, Some(*name), address), error)?;
+        console.report_behind(name_of(alloc, asking, *name, address), error)?;
     }
     Ok(match (found.errors.is_empty(), has_record) {
         (false, _) => FAILED,
@@ -188,7 +197,11 @@ fn show_one<O: Write, E: Write>(
 }
 
 // The status after one more address: of an error above all, and of what is not found only if nothing came before.
-fn status_after(status: u8, next: u8) -> u8 {
+fn status_after(status: u8, next: u8) -> u8
+    ensures failed { (status ≡ 1) ⊎ (next ≡ 1) → result ≡ 1 }
+    ensures done { result ≡ 0 ↔ ((status ≡ 0) × (next ≡ 0)) }
+    ensures either { (result ≡ status) ⊎ (result ≡ next) }
+{
     if next == FAILED || status == DONE {
         next
     } else {

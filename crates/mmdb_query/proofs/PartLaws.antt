@@ -1,5 +1,5 @@
 -- What is wanted of networks.
-use Rattle.std.proofs.Common.{◌≡◌, ◌↔◌, ◌⊎◌, inl, inr, ◌<◌, ◌≤◌, ℕ, ◌+◌, ◌-◌, ◌^◌, Bool, true, false, ◌||◌, List, [], ◌∷◌, ◌++◌, Option, Some, None, length, take, drop, refl, sym, ap, ◌∙◌, subst, append_assoc, append-nil, arith, if◌then◌else◌}
+use Rattle.std.proofs.Common.{◌≡◌, ◌↔◌, ◌⊎◌, inl, inr, ◌<◌, ◌≤◌, ℕ, ◌+◌, ◌-◌, ◌^◌, Bool, true, false, ◌||◌, List, [], ◌∷◌, ◌++◌, Option, Some, None, Result, Ok, Err, IfOk, length, take, drop, refl, sym, ap, ◌∙◌, subst, append_assoc, append-nil, arith, if◌then◌else◌}
 use Rattle.std.proofs.Math.Seq.{take-append-add}
 use Rattle.std.proofs.lemmas.List.{length-append, length-take-le}
 use Rattle.std.proofs.lemmas.Slice.Eq.{starts_is}
@@ -19,8 +19,10 @@ use Rattle.mmdb_blocks.specs.declared.kind.Kinds.{Kinds}
 use Rattle.mmdb_blocks.specs.declared.kind.Kinds.TheVariants.{Both}
 use Rattle.mmdb_query.specs.Abreast.{IsOfIpv4}
 use Rattle.mmdb_query.specs.Had.{Had, IsNetworkOf, network_bits}
-use Rattle.mmdb_query.specs.Parts.{is_wanted, has_range, range_in, clipped, parts_of, IsInRange, IsAnsweredIn, AnswersStay}
-use Rattle.mmdb_query.specs.Sets.{BeginsWith}
+use Rattle.mmdb_query.specs.Parts.{is_wanted, has_range, range_in, clipped, parts_of, ComesInPart, IsInRange, IsAnsweredIn, AnswersStay}
+use Rattle.mmdb_query.specs.Sets.{BeginsWith, IsGathered}
+use Rattle.mmdb_query.specs.Taking.{Asked}
+use Rattle.mmdb_query.specs.declared.addresses.Addresses.{Addresses}
 use Rattle.mmdb_query.specs.Walks.{Item}
 use Rattle.mmdb_query.specs.Walks.Item.{Found, Unread}
 use Rattle.mmdb_query.proofs.SetLaws.{block_bits, from_bits}
@@ -213,3 +215,29 @@ module _ (kinds : Kinds) (range : Option IpNetwork) (address : ℕ) (offsets : L
 
 pub answers_stay : AnswersStay
 answers_stay kinds range items address offsets inside = (from_parts kinds range address offsets inside items, to_parts kinds range address offsets inside items)
+
+-- ---- all that comes
+
+all_parts : (items : List Item) → parts_of Both None items ≡ items
+all_parts [] = refl
+all_parts (Unread ∷ items) = ap (λ rest. Unread ∷ rest) (all_parts items)
+all_parts (Found had ∷ items) = ap (λ rest. Found had ∷ rest) (all_parts items)
+
+-- what is gathered of a walk is gathered of all its parts
+gathered_whole : {X : Type 0} (comes : List Item → Type 0) (a : Asked X) (set : Addresses) (faults : ℕ) → IsGathered comes a set faults → IsGathered (ComesInPart Both None comes) a set faults
+gathered_whole comes a set faults is = record {
+  items = is.items;
+  come = (is.items, is.come, sym (all_parts is.items));
+  put = is.put;
+  picked = is.picked;
+  exact = is.exact;
+  only = is.only;
+  all = is.all;
+}
+
+pub gathered_of_all : {E X : Type 0} (kinds : Kinds) (range : Option IpNetwork) (comes : List Item → Type 0) (a : Asked X) (r : Result (Addresses × ℕ) E) → kinds ≡ Both → range ≡ None
+    → IfOk r (λ found. IsGathered comes a found.0 found.1) → IfOk r (λ found. IsGathered (ComesInPart kinds range comes) a found.0 found.1)
+gathered_of_all kinds range comes a (Ok found) both none is =
+    subst (λ k. IsGathered (ComesInPart k range comes) a found.0 found.1) (sym both)
+    (subst (λ q. IsGathered (ComesInPart Both q comes) a found.0 found.1) (sym none) (gathered_whole comes a found.0 found.1 is))
+gathered_of_all kinds range comes a (Err e) both none is = tt

@@ -10,7 +10,7 @@ use Rattle.mmdb_query.specs.Had.{Had}
 use Rattle.mmdb_query.specs.Walks.{Item, Goes, IsStep}
 use Rattle.mmdb_query.specs.Walks.Item.{Found, Unread}
 use Rattle.mmdb_query.specs.Taking.{Asked, IsPicked, ArePicked, Runs, Takes, IsDone, IsDoneOrNot}
-use Rattle.mmdb_query.specs.Steps.{is_memory, TakesChosen, TakesItem, TakesKnown, TakesStep, FitsOf, UnderWay}
+use Rattle.mmdb_query.specs.Steps.{is_memory, IsTried, TakesItem, TakesKnown, TakesStep, FitsOf, UnderWay}
 use Rattle.mmdb_query.specs.Ends.{WritesNone, Begins, TooManyCome, EndsBy}
 use Rattle.mmdb_query.specs.declared.error.QueryError.{QueryError}
 use Rattle.mmdb_query.specs.declared.error.QueryError.TheVariants as ends
@@ -36,6 +36,16 @@ unless_memory (Decoding message offset path) is p = p
 unless_memory (ResourceLimit message offset path) is p = p
 unless_memory (InvalidNetwork e) is p = p
 unless_memory (InvalidInput message) is p = p
+
+-- what holds unless memory is out, and what follows from it
+pub apart_on : {P Q : Type 0} (e : MaxMindDbError) → (P → Q) → MemoryApart e P → MemoryApart e Q
+apart_on Memory f p = p
+apart_on (InvalidDatabase message offset) f p = f p
+apart_on (Io e) f p = f p
+apart_on (Decoding message offset path) f p = f p
+apart_on (ResourceLimit message offset path) f p = f p
+apart_on (InvalidNetwork e) f p = f p
+apart_on (InvalidInput message) f p = f p
 
 -- ---- networks, one after another
 
@@ -138,6 +148,12 @@ step_taken comes of s sections had (Ok answer) first now next old one new before
 step_taken comes of s sections had (Err e) first now next old one new before at after faults added count way step same (is, once, kept, written) =
     unread_taken comes (of s) first now next old one new before at after faults added count way (unless_memory e is step) once kept written
 
+-- what a walk handed out was given back to it
+pub stepped_back : {W A : Type 0} (comes : W → List Item → Type 0) (had : A → Had) (item : Result A MaxMindDbError) (now mid next : W)
+    → IsStep comes had now (Some item) mid → Goes comes mid [] next → IsStep comes had now (Some item) next
+stepped_back comes had (Ok answer) now mid next step back = goes_on comes now mid next (Found (had answer) ∷ []) [] step back
+stepped_back comes had (Err e) now mid next step back = apart_on e (λ p. goes_on comes now mid next (Unread ∷ []) [] p back) step
+
 pub fits_on : {A K : Type 0} (sections : A → List (List ℕ)) (fits : List (List ℕ) → K → Type 0) (s : List (List ℕ)) (item : Result A MaxMindDbError) (old new : K)
     → IfOk item (λ answer. sections answer ≡ s) → fits s old → FitsOf sections fits item old new → fits s new
 fits_on sections fits s (Ok answer) old new same before now = subst (λ t. fits t new) same now
@@ -154,15 +170,6 @@ all_same sections t s (Err e) of same = tt
 
 -- ---- memory that is out
 
--- nothing was taken nor written before a network was taken, or couldn't be
-pub put_again : {E X : Type 0} (puts : X → List ℕ → X → Type 0) (unput : Type 0) (r : Result (Option MaxMindDbError) E) (e : MaxMindDbError) (old one two new : X) (before at after : Option (List ℕ))
-    → IsDone puts unput (Some e) old one before at → two ≡ one → IfOk r (λ u. IsDone puts unput u two new at after) → IfOk r (λ u. IsDone puts unput u old new before after)
-put_again puts unput (Ok None) e old one two new before at after (cant, kept, none) same (text, put, written) =
-    (text, subst (λ x. puts x text new) (same ∙ kept) put, Appends-trans before at after [] text none written)
-put_again puts unput (Ok (Some other)) e old one two new before at after (cant, kept, none) same (cant2, kept2, none2) =
-    (cant2, kept2 ∙ same ∙ kept, nothing_more before at after none none2)
-put_again puts unput (Err x) e old one two new before at after first same second = tt
-
 -- nothing was written before
 pub none_before : (e : QueryError) (before at after : Option (List ℕ)) → Appends before at [] → WritesNone at after e → WritesNone before after e
 none_before ends.Memory before at after none more = nothing_more before at after none more
@@ -172,43 +179,42 @@ none_before ends.OutOfOrder before at after none more = more
 
 -- ---- one network
 
--- a chosen network that can't be read was reported
-pub unput_reported : {E X : Type 0} (puts : X → List ℕ → X → Type 0) (unput : Type 0) (r : Result ℕ E) (e : MaxMindDbError) (old new : X) (before at after : Option (List ℕ))
-    → MemoryApart e unput × (new ≡ old) × Appends before at [] → IfOk r (λ fault. (fault ≡ 1) × (is_memory e ≡ false)) → Appends at after []
-    → IfOk r (λ fault. TakesChosen puts unput fault old new before after)
-unput_reported puts unput (Ok fault) e old new before at after (cant, kept, none) (one, is) more = inr (unless_memory e is cant, kept, nothing_more before at after none more, one)
-unput_reported puts unput (Err x) e old new before at after cant reported more = tt
+-- it can't be read whether a network is chosen
+pub unsaid_tried : {X : Type 0} (a : Asked X) (had : Had) (e : MaxMindDbError) (old : X) (before : Option (List ℕ))
+    → MemoryApart e (a.unsaid had.offsets) → IsTried a had (Some e) old old before before
+unsaid_tried a had e old before cant = (apart_on e (λ p. inl p) cant, refl, Appends-nil before)
 
-pub unsaid_reported : {E X : Type 0} (a : Asked X) (had : Had) (r : Result ℕ E) (e : MaxMindDbError) (old : X) (before after : Option (List ℕ))
-    → MemoryApart e (a.unsaid had.offsets) → IfOk r (λ fault. (fault ≡ 1) × (is_memory e ≡ false)) → Appends before after []
-    → IfOk r (λ fault. TakesItem a (Found had) fault old old before after)
-unsaid_reported a had (Ok fault) e old before after cant (one, is) none =
-    record { put = []; text = []; picked = inr (inl (unless_memory e is cant), refl, one); ran = (refl, refl); written = none }
-unsaid_reported a had (Err x) e old before after cant reported none = tt
+-- a network that can't be put was reported
+pub tried_reported : {E X : Type 0} (a : Asked X) (had : Had) (r : Result ℕ E) (e : MaxMindDbError) (old one new : X) (before at after : Option (List ℕ))
+    → IsTried a had (Some e) old one before at → new ≡ one → IfOk r (λ fault. (fault ≡ 1) × (is_memory e ≡ false)) → Appends at after []
+    → IfOk r (λ fault. TakesItem a (Found had) fault old new before after)
+tried_reported a had (Ok fault) e old one new before at after (cant, kept, none) same (one-fault, is) more =
+    record { put = []; text = []; picked = inr (unless_memory e is cant, refl, one-fault); ran = (same ∙ kept, refl); written = nothing_more before at after none more }
+tried_reported a had (Err x) e old one new before at after tried same reported more = tt
 
 -- a network that is not chosen
 pub passed : {X : Type 0} (a : Asked X) (had : Had) (old : X) (before : Option (List ℕ)) → a.says had.offsets false → TakesItem a (Found had) 0 old old before before
 passed a had old before says = record { put = []; text = []; picked = inl (inr (says, refl), refl); ran = (refl, refl); written = Appends-nil before }
 
--- a chosen network was taken, or not
-chosen_one : {X : Type 0} (a : Asked X) (had : Had) (fault : ℕ) (old new : X) (before after : Option (List ℕ)) → a.says had.offsets true
-    → TakesChosen (a.puts had) (a.unput had.offsets) fault old new before after → TakesItem a (Found had) fault old new before after
-chosen_one a had fault old new before after says (inl (text, put, written, none)) =
-    record { put = had ∷ []; text = text; picked = inl (inl (says, refl), none); ran = runs_one a.puts had old new text put; written = written }
-chosen_one a had fault old new before after says (inr (cant, kept, written, one)) =
-    record { put = []; text = []; picked = inr (inr (says, cant), refl, one); ran = (kept, refl); written = written }
+-- a chosen network was taken
+chosen_one : {X : Type 0} (a : Asked X) (had : Had) (old new : X) (before after : Option (List ℕ)) (text : List ℕ) → a.says had.offsets true
+    → a.puts had old text new → Appends before after text → TakesItem a (Found had) 0 old new before after
+chosen_one a had old new before after text says put written =
+    record { put = had ∷ []; text = text; picked = inl (inl (says, refl), refl); ran = runs_one a.puts had old new text put; written = written }
 
-pub chosen_taken : {E X : Type 0} (a : Asked X) (had : Had) (r : Result ℕ E) (old new : X) (before after : Option (List ℕ))
-    → a.says had.offsets true → IfOk r (λ fault. TakesChosen (a.puts had) (a.unput had.offsets) fault old new before after)
-    → IfOk r (λ fault. TakesItem a (Found had) fault old new before after)
-chosen_taken a had (Ok fault) old new before after says taken = chosen_one a had fault old new before after says taken
-chosen_taken a had (Err x) old new before after says taken = tt
+-- a chosen network was taken, or can't be
+pub chosen_tried : {E X : Type 0} (a : Asked X) (had : Had) (r : Result (Option MaxMindDbError) E) (old new : X) (before after : Option (List ℕ))
+    → a.says had.offsets true → IfOk r (λ u. IsDone (a.puts had) (a.unput had.offsets) u old new before after)
+    → IfOk r (λ u. IsTried a had u old new before after)
+chosen_tried a had (Ok None) old new before after says (text, put, written) = chosen_one a had old new before after text says put written
+chosen_tried a had (Ok (Some e)) old new before after says (cant, kept, written) = (apart_on e (λ p. inr (says, p)) cant, kept, written)
+chosen_tried a had (Err x) old new before after says done = tt
 
 -- a network that is known to be chosen was taken at once, or nothing was taken
 pub known_taken : {E X : Type 0} (a : Asked X) (had : Had) (r : Result Bool E) (old new : X) (before after : Option (List ℕ))
     → a.says had.offsets true → IfOk r (λ done. IsDoneOrNot (a.puts had) done old new before after)
     → IfOk r (λ done. TakesKnown a (Found had) done old new before after)
-known_taken a had (Ok true) old new before after says (text, put, written) = chosen_one a had 0 old new before after says (inl (text, put, written, refl))
+known_taken a had (Ok true) old new before after says (text, put, written) = chosen_one a had old new before after text says put written
 known_taken a had (Ok false) old new before after says taken = taken
 known_taken a had (Err x) old new before after says taken = tt
 

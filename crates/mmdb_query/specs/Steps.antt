@@ -1,12 +1,13 @@
 -- Steps of the loop that gives networks to a sink.
-use Rattle.std.specs.Prelude.{◌≡◌, ◌⊎◌, ℕ, List, [], length, Option, Bool, true, false, Result, Ok, Err}
+use Rattle.std.specs.Prelude.{◌≡◌, ℕ, List, [], length, Option, Some, None, Bool, true, false, Result, Ok, Err}
 use Rattle.std.specs.Io.KnownBytes.{Appends}
+use Rattle.mmdb_format.specs.Error.{MemoryApart}
 use Rattle.mmdb_format.specs.declared.error.MaxMindDbError.{MaxMindDbError}
 use Rattle.mmdb_format.specs.declared.error.MaxMindDbError.TheVariants.{Memory, InvalidDatabase, Io, Decoding, ResourceLimit, InvalidNetwork, InvalidInput}
 use Rattle.mmdb_query.specs.Had.{Had}
 use Rattle.mmdb_query.specs.Walks.{Item, Goes}
 use Rattle.mmdb_query.specs.Walks.Item.{Found}
-use Rattle.mmdb_query.specs.Taking.{Asked, IsPicked, ArePicked, Runs}
+use Rattle.mmdb_query.specs.Taking.{Asked, IsPicked, ArePicked, Runs, CantBePut}
 
 -- memory is out
 abbrev pub is_memory : MaxMindDbError → Bool
@@ -18,12 +19,6 @@ is_memory (ResourceLimit message offset path) = false
 is_memory (InvalidNetwork e) = false
 is_memory (InvalidInput message) = false
 
--- a chosen network was put, or what it needs can't be read
-abbrev pub TakesChosen : {X : Type 0} → (X → List ℕ → X → Type 0) → Type 0 → ℕ → X → X → Option (List ℕ) → Option (List ℕ) → Type 0
-TakesChosen puts unput fault old new before after =
-    ((text : List ℕ) × puts old text new × Appends before after text × (fault ≡ 0))
-    ⊎ (unput × (new ≡ old) × Appends before after [] × (fault ≡ 1))
-
 -- what was taken and written grew by what is put of an item
 pub record TakesItem {X : Type 0} (a : Asked X) (item : Item) (fault : ℕ) (old new : X) (before after : Option (List ℕ)) : Type 0 where
   pub put : List Had
@@ -31,6 +26,11 @@ pub record TakesItem {X : Type 0} (a : Asked X) (item : Item) (fault : ℕ) (old
   pub picked : IsPicked a item put fault
   pub ran : Runs a.puts put old text new
   pub written : Appends before after text
+
+-- a network was put, if it is chosen; or it can't be, unless memory is out, and nothing was taken nor written
+abbrev pub IsTried : {X : Type 0} → Asked X → Had → Option MaxMindDbError → X → X → Option (List ℕ) → Option (List ℕ) → Type 0
+IsTried a had None old new before after = TakesItem a (Found had) 0 old new before after
+IsTried a had (Some e) old new before after = MemoryApart e (CantBePut a had) × (new ≡ old) × Appends before after []
 
 -- that was done of an item that can be read, or nothing was taken nor written
 abbrev pub TakesKnown : {X : Type 0} → Asked X → Item → Bool → X → X → Option (List ℕ) → Option (List ℕ) → Type 0

@@ -4,6 +4,7 @@ ghost use Rattle.mmdb_blocks.specs.Ranges.{IsAmong};
 ghost use Rattle.mmdb_reader.specs.File.{data_section};
 ghost use Rattle.mmdb_query.specs.Answered.{HasOnlyMet, HasAllMet};
 ghost use Rattle.mmdb_query.specs.Had.{network_bits};
+ghost use Rattle.mmdb_query.specs.Parts.{ComesInPart};
 ghost use Rattle.mmdb_query.specs.Rows.{nothing};
 ghost use Rattle.mmdb_query.specs.Sets.{AddsNetwork, BeginsWith, IsGathered, puts_addresses, needs_nothing};
 ghost use Rattle.mmdb_query.specs.Taking.{asks};
@@ -12,9 +13,10 @@ use crate::answer::Answer;
 use crate::choice::Conditions;
 use crate::each::put_each;
 use crate::error::{Faults, QueryError};
+use crate::part::Part;
 use crate::sink::Sink;
 use crate::walk::{One, Walk};
-use mmdb_blocks::{Block, BlockRange, Ranges};
+use mmdb_blocks::{Block, BlockRange, Kinds, Ranges};
 use mmdb_reader::{IpNetwork, MaxMindDbError, Reader, WithinOptions};
 use std::alloc::{AllocError, Global};
 use std::convert::AsSlice;
@@ -142,6 +144,27 @@ pub fn gather<W: Walk, C: Conditions, F: Faults>(
         faults,
     )?;
     Ok((addresses, unread))
+}
+
+/// The same of the networks of some kinds, and of one that has a range no more than the range.
+pub fn gather_part<W: Walk + Drop, C: Conditions, F: Faults>(
+    alloc: Global,
+    walk: W,
+    kinds: Kinds,
+    range: Option<IpNetwork>,
+    conditions: &C,
+    faults: &mut F,
+) -> Result<(Addresses, u64), QueryError>
+    ensures { IfOk result (λ found. IsGathered (ComesInPart kinds range (W.comes walk))
+        (asks C.says C.is_unread puts_addresses needs_nothing conditions.now nothing
+        (W.sections walk)) found.0 found.1) }
+{
+    let mut walk = walk;
+    if let (Kinds::Both, None) = (kinds, range) {
+        return gather(alloc, &mut walk, conditions, faults);
+    }
+    let mut part = Part { walk, kinds, range };
+    gather(alloc, &mut part, conditions, faults)
 }
 
 /// The addresses of the networks of a database, outside aliased ones, that meet all conditions.

@@ -7,7 +7,8 @@ ghost use Rattle.mmdb_query.specs.Kept.{IsOfNone, IsFresh, ChoiceFits};
 use crate::answer::Answer;
 use mmdb_cache::{CacheKey, CacheTable, Memo};
 use mmdb_reader::MaxMindDbError;
-use std::alloc::{AllocError, Global};
+use std::alloc::Global;
+use std::mem;
 
 /// What is asked of the records of a network.
 pub trait Conditions {
@@ -61,6 +62,8 @@ pub struct Choice<'a, C: Conditions> {
     alloc: Global,
     pub(crate) conditions: &'a C,
     are_none: bool,
+    /// Whether answers are kept.
+    is_kept: bool,
     pub(crate) kept: CacheTable<RecordKey, bool, SETS>,
 }
 
@@ -76,37 +79,49 @@ fn kept_key(key: Option<usize>) -> Option<RecordKey>
     }
 }
 
-// No answers.
-fn no_answers(alloc: Global) -> Result<CacheTable<RecordKey, bool, SETS>, AllocError>
-    ensures { IfOk result (All IsOfNone) }
+// No answers, and none is kept where there is no memory for that.
+fn no_answers(alloc: Global) -> CacheTable<RecordKey, bool, SETS>
+    ensures { All IsOfNone result }
 {
-    CacheTable::new(
-        alloc,
-        Memo {
-            key: RecordKey { number: NO_NUMBER },
-            value: false,
-        },
-    )
+    let none = Memo {
+        key: RecordKey { number: NO_NUMBER },
+        value: false,
+    };
+    match CacheTable::new(alloc, none) {
+        Ok(kept) => kept,
+        Err(_) => CacheTable::without_memory(alloc),
+    }
 }
 
 impl<'a, C: Conditions> Choice<'a, C> {
-    /// By these conditions. All its memory is taken here, none where there are no conditions.
-    pub fn new(alloc: Global, conditions: &'a C) -> Result<Choice<'a, C>, AllocError>
-        ensures conditions { IfOk result (λ choice. choice.conditions.now ≡ conditions.now) }
-        ensures fresh { IfOk result (IsFresh C.says) }
+    /// By these conditions. All its memory is taken here, as far as there is enough, and none where there are no conditions.
+    pub fn new(alloc: Global, conditions: &'a C) -> Choice<'a, C>
+        ensures conditions { result.conditions.now ≡ conditions.now }
+        ensures fresh { IsFresh C.says result }
     {
         let are_none = conditions.are_none();
         let kept = if are_none {
             CacheTable::without_memory(alloc)
         } else {
-            no_answers(alloc)?
+            no_answers(alloc)
         };
-        Ok(Choice {
+        Choice {
             alloc,
             conditions,
             are_none,
+            is_kept: !are_none,
             kept,
-        })
+        }
+    }
+
+    /// Keeps no answers from here on. Whether it kept some.
+    pub(crate) fn drop_kept(&mut self) -> bool
+        ensures fits { (s : List (List ℕ)) → ChoiceFits C.says s self.old
+            → ChoiceFits C.says s self.new }
+        ensures same { self.new.conditions.now ≡ self.old.conditions.now }
+    {
+        self.kept = CacheTable::without_memory(self.alloc);
+        mem::replace(&mut self.is_kept, false)
     }
 
     /// What was answered for the same records, where that is kept.

@@ -4,9 +4,10 @@ ghost use Rattle.std.specs.Io.KnownBytes.{Appends};
 ghost use Rattle.mmdb_format.specs.Error.{MemoryApart};
 ghost use Rattle.mmdb_query.specs.Ends.{IsOfOutput, WritesNone, EndsBy};
 ghost use Rattle.mmdb_query.specs.Kept.{ChoiceFits};
+ghost use Rattle.mmdb_query.specs.Walks.{Goes};
 ghost use Rattle.mmdb_query.specs.Walks.Item.{Found};
-ghost use Rattle.mmdb_query.specs.Taking.{asks, Takes, IsDone};
-ghost use Rattle.mmdb_query.specs.Steps.{TakesItem, TakesKnown, TakesStep, TakesChosen, FitsOf, FitsStill, is_memory as spec_is_memory};
+ghost use Rattle.mmdb_query.specs.Taking.{asks, CantBePut, Takes};
+ghost use Rattle.mmdb_query.specs.Steps.{TakesItem, TakesKnown, TakesStep, IsTried, FitsOf, FitsStill, is_memory as spec_is_memory};
 
 use crate::answer::Answer;
 use crate::choice::{Choice, Conditions};
@@ -28,51 +29,18 @@ fn tell<F: Faults>(passed: u64, faults: &mut F) {
     }
 }
 
-// Whether a network is chosen. Where memory is out, what a sink keeps is dropped, and it is asked once more.
-#[inline(always)]
-fn chooses<A: Answer, S: Sink, C: Conditions>(
-    choice: &mut Choice<'_, C>,
-    sink: &mut S,
-    answer: &A,
-) -> Result<bool, MaxMindDbError>
-    requires { ChoiceFits C.says (A.sections answer.now) choice.old }
-    ensures says { IfOk result
-        (C.says choice.old.conditions.now (A.sections answer.now) (A.had answer.now).offsets) }
-    ensures unread { IfErr result (λ e. MemoryApart e
-        (C.is_unread choice.old.conditions.now (A.sections answer.now)
-        (A.had answer.now).offsets)) }
-    ensures choice { ChoiceFits C.says (A.sections answer.now) choice.new }
+// Drops all that is kept to be faster. Whether that may free memory.
+#[cold]
+#[inline(never)]
+fn drop_kept<S: Sink, C: Conditions>(choice: &mut Choice<'_, C>, sink: &mut S) -> bool
+    ensures choice { FitsStill (ChoiceFits C.says) choice.old choice.new }
     ensures same { choice.new.conditions.now ≡ choice.old.conditions.now }
     ensures sink { FitsStill S.fits sink.old sink.new }
     ensures form { S.form sink.new ≡ S.form sink.old }
     ensures took { S.took sink.new ≡ S.took sink.old }
 {
-    match choice.chooses(answer) {
-        Err(error) if is_memory(&error) && sink.drop_caches() => choice.chooses(answer),
-        done => done,
-    }
-}
-
-// Gives a chosen network to a sink. Where memory is out, what it keeps is dropped, and it is given once more: nothing was taken.
-#[inline(always)]
-fn put<A: Answer, S: Sink, O: Write>(
-    sink: &mut S,
-    answer: &A,
-    out: &mut O,
-) -> Result<Option<MaxMindDbError>, QueryError>
-    requires { S.fits (A.sections answer.now) sink.old }
-    ensures done { IfOk result (λ unread. IsDone
-        (S.puts (S.form sink.old) (A.sections answer.now) (A.had answer.now))
-        (S.is_unread (S.form sink.old) (A.sections answer.now) (A.had answer.now).offsets)
-        unread (S.took sink.old) (S.took sink.new) (O.contents out.old) (O.contents out.new)) }
-    ensures failed { IfErr result (WritesNone (O.contents out.old) (O.contents out.new)) }
-    ensures fits { S.fits (A.sections answer.now) sink.new }
-    ensures form { S.form sink.new ≡ S.form sink.old }
-{
-    match sink.put(answer, out)? {
-        Some(error) if is_memory(&error) && sink.drop_caches() => sink.put(answer, out),
-        done => Ok(done),
-    }
+    let was_kept = choice.drop_kept();
+    sink.drop_caches() || was_kept
 }
 
 // Reports what can't be read, and says that it is one. Where there is no memory for that, what a sink keeps is
@@ -98,30 +66,6 @@ fn report_of<A: Answer, S: Sink, O: Write, F: Faults>(
             report(fault, error, out, faults)
         }
         done => done,
-    }
-}
-
-// Gives a chosen network to a sink, or reports why it can't be, and says how many can't.
-#[inline(always)]
-fn put_chosen<A: Answer, S: Sink, O: Write, F: Faults>(
-    sink: &mut S,
-    answer: &A,
-    out: &mut O,
-    faults: &mut F,
-) -> Result<u64, QueryError>
-    requires { S.fits (A.sections answer.now) sink.old }
-    ensures put { IfOk result (λ fault. TakesChosen
-        (S.puts (S.form sink.old) (A.sections answer.now) (A.had answer.now))
-        (S.is_unread (S.form sink.old) (A.sections answer.now) (A.had answer.now).offsets)
-        fault (S.took sink.old) (S.took sink.new) (O.contents out.old) (O.contents out.new)) }
-    ensures failed { IfErr result (WritesNone (O.contents out.old) (O.contents out.new)) }
-    ensures few { IfOk result (λ fault. fault ≤ 1) }
-    ensures fits { S.fits (A.sections answer.now) sink.new }
-    ensures form { S.form sink.new ≡ S.form sink.old }
-{
-    match put(sink, answer, out)? {
-        None => Ok(0),
-        Some(error) => report_of(sink, &Fault::Network(answer), &error, out, faults),
     }
 }
 
@@ -151,6 +95,101 @@ fn put_known<A: Answer, S: Sink, C: Conditions, O: Write>(
     }
 }
 
+// Gives a network to a sink, if it is chosen, or answers why it can't be, unless out of memory.
+#[inline(always)]
+fn put_chosen<A: Answer, S: Sink, C: Conditions, O: Write>(
+    choice: &mut Choice<'_, C>,
+    sink: &mut S,
+    answer: &A,
+    out: &mut O,
+) -> Result<Option<MaxMindDbError>, QueryError>
+    requires choice { ChoiceFits C.says (A.sections answer.now) choice.old }
+    requires sink { S.fits (A.sections answer.now) sink.old }
+    ensures tried { IfOk result (λ unread. IsTried
+        (asks C.says C.is_unread S.puts S.is_unread choice.old.conditions.now (S.form sink.old)
+        (A.sections answer.now)) (A.had answer.now) unread
+        (S.took sink.old) (S.took sink.new)
+        (O.contents out.old) (O.contents out.new)) }
+    ensures failed { IfErr result (WritesNone (O.contents out.old) (O.contents out.new)) }
+    ensures choice { ChoiceFits C.says (A.sections answer.now) choice.new }
+    ensures sink { S.fits (A.sections answer.now) sink.new }
+    ensures same { choice.new.conditions.now ≡ choice.old.conditions.now }
+    ensures form { S.form sink.new ≡ S.form sink.old }
+{
+    match choice.chooses(answer) {
+        Ok(true) => sink.put(answer, out),
+        Ok(false) => Ok(None),
+        Err(error) => Ok(Some(error)),
+    }
+}
+
+// Gives a network to a sink once more, if it is chosen, or reports why it can't be, and says how many can't.
+#[cold]
+#[inline(never)]
+fn put_again<A: Answer, S: Sink, C: Conditions, O: Write, F: Faults>(
+    choice: &mut Choice<'_, C>,
+    sink: &mut S,
+    answer: &A,
+    out: &mut O,
+    faults: &mut F,
+) -> Result<u64, QueryError>
+    requires choice { ChoiceFits C.says (A.sections answer.now) choice.old }
+    requires sink { S.fits (A.sections answer.now) sink.old }
+    ensures put { IfOk result (λ fault. TakesItem
+        (asks C.says C.is_unread S.puts S.is_unread choice.old.conditions.now (S.form sink.old)
+        (A.sections answer.now)) (Found (A.had answer.now)) fault
+        (S.took sink.old) (S.took sink.new)
+        (O.contents out.old) (O.contents out.new)) }
+    ensures failed { IfErr result (WritesNone (O.contents out.old) (O.contents out.new)) }
+    ensures few { IfOk result (λ fault. fault ≤ 1) }
+    ensures choice { ChoiceFits C.says (A.sections answer.now) choice.new }
+    ensures sink { S.fits (A.sections answer.now) sink.new }
+    ensures same { choice.new.conditions.now ≡ choice.old.conditions.now }
+    ensures form { S.form sink.new ≡ S.form sink.old }
+{
+    match put_chosen(choice, sink, answer, out)? {
+        None => Ok(0),
+        Some(error) => report_of(sink, &Fault::Network(answer), &error, out, faults),
+    }
+}
+
+// Reports why a network can't be put. Where memory was out, all that is kept is dropped, and it is tried once more.
+#[cold]
+#[inline(never)]
+fn put_failed<A: Answer, S: Sink, C: Conditions, O: Write, F: Faults>(
+    choice: &mut Choice<'_, C>,
+    sink: &mut S,
+    answer: &A,
+    error: MaxMindDbError,
+    out: &mut O,
+    faults: &mut F,
+) -> Result<u64, QueryError>
+    requires unread { MemoryApart error (CantBePut
+        (asks C.says C.is_unread S.puts S.is_unread choice.old.conditions.now (S.form sink.old)
+        (A.sections answer.now)) (A.had answer.now)) }
+    requires choice { ChoiceFits C.says (A.sections answer.now) choice.old }
+    requires sink { S.fits (A.sections answer.now) sink.old }
+    ensures put { IfOk result (λ fault. TakesItem
+        (asks C.says C.is_unread S.puts S.is_unread choice.old.conditions.now (S.form sink.old)
+        (A.sections answer.now)) (Found (A.had answer.now)) fault
+        (S.took sink.old) (S.took sink.new)
+        (O.contents out.old) (O.contents out.new)) }
+    ensures failed { IfErr result (WritesNone (O.contents out.old) (O.contents out.new)) }
+    ensures few { IfOk result (λ fault. fault ≤ 1) }
+    ensures choice { ChoiceFits C.says (A.sections answer.now) choice.new }
+    ensures sink { S.fits (A.sections answer.now) sink.new }
+    ensures same { choice.new.conditions.now ≡ choice.old.conditions.now }
+    ensures form { S.form sink.new ≡ S.form sink.old }
+{
+    if !is_memory(&error) {
+        return report_of(sink, &Fault::Network(answer), &error, out, faults);
+    }
+    if drop_kept(choice, sink) {
+        return put_again(choice, sink, answer, out, faults);
+    }
+    Err(QueryError::Memory)
+}
+
 // Gives a network to a sink, if it is chosen, or reports why it can't be, and says how many can't.
 #[inline(never)]
 fn put_anew<A: Answer, S: Sink, C: Conditions, O: Write, F: Faults>(
@@ -174,10 +213,9 @@ fn put_anew<A: Answer, S: Sink, C: Conditions, O: Write, F: Faults>(
     ensures same { choice.new.conditions.now ≡ choice.old.conditions.now }
     ensures form { S.form sink.new ≡ S.form sink.old }
 {
-    match chooses(choice, sink, answer) {
-        Ok(true) => put_chosen(sink, answer, out, faults),
-        Ok(false) => Ok(0),
-        Err(error) => report_of(sink, &Fault::Network(answer), &error, out, faults),
+    match put_chosen(choice, sink, answer, out)? {
+        None => Ok(0),
+        Some(error) => put_failed(choice, sink, answer, error, out, faults),
     }
 }
 
@@ -215,7 +253,7 @@ fn put_answer<A: Answer, S: Sink, C: Conditions, O: Write, F: Faults>(
 fn put_item<W: Walk, S: Sink, C: Conditions, O: Write, F: Faults>(
     choice: &mut Choice<'_, C>,
     sink: &mut S,
-    walk: &W,
+    walk: &mut W,
     item: Result<W::Item, MaxMindDbError>,
     out: &mut O,
     faults: &mut F,
@@ -229,13 +267,19 @@ fn put_item<W: Walk, S: Sink, C: Conditions, O: Write, F: Faults>(
         (O.contents out.old) (O.contents out.new)) }
     ensures failed { IfErr result (WritesNone (O.contents out.old) (O.contents out.new)) }
     ensures few { IfOk result (λ fault. fault ≤ 1) }
+    ensures walk { Goes W.comes walk.old [] walk.new }
+    ensures sections { W.sections walk.new ≡ W.sections walk.old }
     ensures choice { FitsOf W.Item.sections (ChoiceFits C.says) item choice.old choice.new }
     ensures sink { FitsOf W.Item.sections S.fits item sink.old sink.new }
     ensures same { choice.new.conditions.now ≡ choice.old.conditions.now }
     ensures form { S.form sink.new ≡ S.form sink.old }
 {
     match item {
-        Ok(answer) => put_answer(choice, sink, &answer, out, faults),
+        Ok(answer) => {
+            let fault = put_answer(choice, sink, &answer, out, faults)?;
+            walk.give_back(answer);
+            Ok(fault)
+        }
         Err(error) => {
             let leaf: Fault<'_, W::Item> = Fault::Leaf(walk.unread_leaf());
             report_of(sink, &leaf, &error, out, faults)
@@ -266,16 +310,14 @@ pub fn put_each<W: Walk, S: Sink, C: Conditions, O: Write, F: Faults>(
         (O.contents out.old) (O.contents out.new)) }
     ensures form { S.form sink.new ≡ S.form sink.old }
 {
-    let Ok(mut choice) = Choice::new(alloc, conditions) else {
-        return Err(QueryError::Memory);
-    };
+    let mut choice = Choice::new(alloc, conditions);
     let mut unread = 0;
     let mut passed = 0u64;
     for _ in 0..u64::MAX {
         let Some(item) = walk.next_item() else {
             return Ok(unread);
         };
-        unread += put_item(&mut choice, sink, &*walk, item, out, faults)?;
+        unread += put_item(&mut choice, sink, walk, item, out, faults)?;
         passed = passed.wrapping_add(1);
         tell(passed, faults);
     }

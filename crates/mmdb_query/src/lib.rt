@@ -21,7 +21,7 @@ mod values;
 mod walk;
 
 pub use address_blocks::{AddressBlocks, blocks, list_all};
-pub use addresses::{Addresses, gather, gather_all};
+pub use addresses::{Addresses, gather, gather_all, gather_part};
 pub use answer::Answer;
 pub use choice::{Choice, Conditions};
 pub use each::put_each;

@@ -18,6 +18,7 @@ use mmdb_format::message::{Message, Text};
 use mmdb_reader::MaxMindDbError;
 use std::alloc::{AllocError, Global};
 use std::convert::AsSlice;
+use std::mem;
 
 /// Several databases side by side, as the largest blocks in which each has one answer and one of them a record.
 #[derive(Drop)]
@@ -26,6 +27,8 @@ pub struct Many<'a, S: AsSlice<u8> + Drop> {
     pub(crate) databases: &'a [AskedDatabase<'a, S>],
     pub(crate) together: Together<'a, S>,
     unread: UnreadLeaf,
+    /// What was given back, whose memory serves the next stretch.
+    spare: Vec<DatabaseRecord<'a, S>>,
     ghost of_these: { together.databases ≡ map (λ d. d.reader.now) databases.now },
 }
 
@@ -48,6 +51,7 @@ impl<'a, S: AsSlice<u8> + Drop> Many<'a, S> {
                 place: 0,
                 behind: None,
             },
+            spare: Vec::new(alloc),
         })
     }
 
@@ -61,14 +65,17 @@ impl<'a, S: AsSlice<u8> + Drop> Many<'a, S> {
     }
 
     // Where each database has its record in the last stretch.
-    fn records(&self) -> Result<Vec<DatabaseRecord<'a, S>>, AllocError>
+    fn records(&mut self) -> Result<Vec<DatabaseRecord<'a, S>>, AllocError>
         ensures sections { IfOk result (λ records. map (λ r. data_section r.reader.now)
-            records.items ≡ map (λ d. data_section d.reader.now) self.now.databases.now) }
+            records.items ≡ map (λ d. data_section d.reader.now) self.old.databases.now) }
         ensures offsets { IfOk result (λ records. map (λ r. r.offset) records.items
-            ≡ offsets_said self.now.together.answers) }
+            ≡ offsets_said self.old.together.answers) }
+        ensures databases { self.new.databases.now ≡ self.old.databases.now }
+        ensures together { self.new.together ≡ self.old.together }
     {
         let count = self.together.count();
-        let mut records = Vec::with_capacity(self.alloc, count)?;
+        let mut records = mem::replace(&mut self.spare, Vec::new(self.alloc));
+        records.clear();
         for place in 0..count {
             records.push(DatabaseRecord {
                 reader: self.databases[place].reader,
@@ -79,17 +86,19 @@ impl<'a, S: AsSlice<u8> + Drop> Many<'a, S> {
     }
 
     // What the databases have in the last stretch.
-    fn segment(&self, stretch: TogetherStretch) -> Result<Segment<'a, S>, MaxMindDbError>
+    fn segment(&mut self, stretch: TogetherStretch) -> Result<Segment<'a, S>, MaxMindDbError>
         requires { IsBlock stretch.block }
         ensures kind { IfOk result (λ s. IsTrue (is_ipv4 (ip_of s.network))
             ↔ IsOfIpv4 stretch.is_ipv4 stretch.block) }
         ensures bits { IfOk result (λ s. network_bits s.network
             ≡ take stretch.block.prefix (bits_of 128 stretch.block.first)) }
         ensures sections { IfOk result (λ s. map (λ r. data_section r.reader.now)
-            s.records.items ≡ map (λ d. data_section d.reader.now) self.now.databases.now) }
+            s.records.items ≡ map (λ d. data_section d.reader.now) self.old.databases.now) }
         ensures offsets { IfOk result (λ s. map (λ r. r.offset) s.records.items
-            ≡ offsets_said self.now.together.answers) }
+            ≡ offsets_said self.old.together.answers) }
         ensures memory { IfErr result (λ e. kind_of e ≡ OfMemory) }
+        ensures databases { self.new.databases.now ≡ self.old.databases.now }
+        ensures together { self.new.together ≡ self.old.together }
     {
         let records = self.records()?;
         Ok(Segment::new(stretch.block, stretch.is_ipv4, records))
@@ -137,5 +146,10 @@ impl<'a, S: AsSlice<u8> + Drop> Walk for Many<'a, S> {
 
     fn unread_leaf(&self) -> UnreadLeaf {
         self.unread
+    }
+
+    #[inline(always)]
+    fn give_back(&mut self, item: Segment<'a, S>) {
+        self.spare = item.records;
     }
 }

@@ -207,4 +207,9 @@ impl<W: Walk + Drop> Walk for Part<W> {
     fn unread_leaf(&self) -> UnreadLeaf {
         self.walk.unread_leaf()
     }
+
+    #[inline(always)]
+    fn give_back(&mut self, item: Clipped<W::Item>) {
+        self.walk.give_back(item.whole);
+    }
 }

@@ -87,6 +87,7 @@ impl<'a, T: Template> RowMaker<'a, T> {
     }
 
     // Makes what the row of an answer has after its network, in place of what was made last.
+    #[inline(always)]
     fn make_last<A: Answer>(&mut self, answer: &A) -> Result<(), MaxMindDbError>
         requires { RowsFit T.is_tail T.fits (A.sections answer.now) self.old }
         ensures tail { OnOk result (T.is_tail self.old.template.now (A.sections answer.now)
@@ -205,6 +206,7 @@ impl<'a, T: Template> Rows<'a, T> {
     }
 
     // Joins the row of a network that is begun with what was made last.
+    #[inline(always)]
     fn join_last(&mut self) -> Result<(), AllocError>
         ensures line { OnOk result
             (self.new.line.items ≡ self.old.line.items ++ self.old.maker.last.items) }
@@ -214,6 +216,7 @@ impl<'a, T: Template> Rows<'a, T> {
     }
 
     // Writes the row of a network with what was made last, which is of the same records.
+    #[inline(always)]
     fn put_last<A: Answer, O: Write>(
         &mut self,
         answer: &A,
@@ -242,32 +245,6 @@ impl<'a, T: Template> Rows<'a, T> {
         };
         write_bytes(self.line.as_slice(), out)?;
         Ok(None)
-    }
-
-    // Writes the row of a network, with what was made last, if it is of the same records; else that is made anew.
-    fn put_made<A: Answer, O: Write>(
-        &mut self,
-        answer: &A,
-        out: &mut O,
-    ) -> Result<Option<MaxMindDbError>, QueryError>
-        requires { RowsFit T.is_tail T.fits (A.sections answer.now) self.old.maker }
-        ensures done { IfOk result (λ unread. IsDone
-            (puts_row T.front T.is_tail self.old.maker.template.now (A.sections answer.now)
-            (A.had answer.now))
-            (T.is_unread self.old.maker.template.now (A.sections answer.now)
-            (A.had answer.now).offsets)
-            unread nothing nothing (O.contents out.old) (O.contents out.new)) }
-        ensures failed { IfErr result (WritesNone (O.contents out.old) (O.contents out.new)) }
-        ensures fits { RowsFit T.is_tail T.fits (A.sections answer.now) self.new.maker }
-        ensures same { self.new.maker.template.now ≡ self.old.maker.template.now }
-    {
-        if self.maker.is_last(answer) {
-            return self.put_last(answer, out);
-        }
-        match self.maker.make_last(answer) {
-            Ok(()) => self.put_last(answer, out),
-            Err(error) => Ok(Some(error)),
-        }
     }
 }
 
@@ -299,15 +276,19 @@ impl<'a, T: Template> Sink for Rows<'a, T> {
         Ok(true)
     }
 
+    #[inline(always)]
     fn put<A: Answer, O: Write>(
         &mut self,
         answer: &A,
         out: &mut O,
     ) -> Result<Option<MaxMindDbError>, QueryError> {
-        if self.put_kept(answer, out)? {
-            return Ok(None);
+        if self.maker.is_last(answer) {
+            return self.put_last(answer, out);
         }
-        self.put_made(answer, out)
+        match self.maker.make_last(answer) {
+            Ok(()) => self.put_last(answer, out),
+            Err(error) => Ok(Some(error)),
+        }
     }
 
     #[cold]

@@ -1,6 +1,6 @@
 //! Networks one after another.
-ghost use Rattle.std.specs.Prelude.{◌≡◌, ℕ, List, IfSome, IfOk};
-ghost use Rattle.mmdb_query.specs.Walks.{Item as SpecItem, IsStep};
+ghost use Rattle.std.specs.Prelude.{◌≡◌, ℕ, List, [], IfSome, IfOk};
+ghost use Rattle.mmdb_query.specs.Walks.{Item as SpecItem, IsStep, Goes};
 
 use crate::answer::Answer;
 use mmdb_reader::{IpNetwork, LookupResult, MaxMindDbError, Within};
@@ -32,6 +32,11 @@ pub trait Walk {
 
     /// Where the leaf is of which the last item said that it can't be read.
     fn unread_leaf(&self) -> UnreadLeaf;
+
+    /// Takes back what was handed out, whose memory then serves what comes.
+    fn give_back(&mut self, item: Self::Item)
+        ensures sections { sections self.new ≡ sections self.old }
+        ensures comes { Goes comes self.old [] self.new };
 }
 
 /// The networks of one database.
@@ -80,4 +85,7 @@ impl<'de, S: AsSlice<u8> + Drop> Walk for One<'de, S> {
             },
         }
     }
+
+    #[inline(always)]
+    fn give_back(&mut self, _item: LookupResult<'de, S>) {}
 }

@@ -31,6 +31,13 @@ pub enum RowForm {
     Json,
 }
 
+/// How what is read is shown, and the memory that this takes.
+#[derive(Clone, Copy)]
+pub(crate) struct Printer {
+    pub(crate) form: RowForm,
+    pub(crate) alloc: Global,
+}
+
 // Adds the JSON of a value.
 fn put_json(alloc: Global, value: &Value<'_>, out: &mut Vec<u8>) -> Result<(), AllocError>
     ensures { OnOk result
@@ -128,6 +135,7 @@ impl RowForm {
     }
 
     // Adds what was read, and says whether there is a value.
+    #[inline(always)]
     fn put_option(
         self,
         alloc: Global,
@@ -147,6 +155,7 @@ impl RowForm {
 
     /// Adds the value at the end of a path as it is read, that of the first database that has one there, and says whether there is
     /// one.
+    #[inline(always)]
     pub(crate) fn put_along<A: Answer>(
         self,
         alloc: Global,
@@ -188,6 +197,7 @@ impl RowForm {
     }
 
     /// Adds the whole record of the database at a place, by its texts or as it is read, and says whether there is one.
+    #[inline(always)]
     pub(crate) fn put_record<A: Answer>(
         self,
         alloc: Global,
@@ -210,11 +220,13 @@ impl RowForm {
             RowForm::Json => put_record(alloc, place, texts, answer, out),
         }
     }
+}
 
+impl Printer {
     // Adds what a column shows of what databases have, and says whether there is a value.
+    #[inline(always)]
     fn put_read<A: Answer>(
         self,
-        alloc: Global,
         source: &ColumnSource<'_>,
         texts: &mut Vec<RecordTexts<'_>>,
         kept: &mut KeptColumn,
@@ -222,29 +234,25 @@ impl RowForm {
         out: &mut Vec<u8>,
     ) -> Result<bool, MaxMindDbError>
         requires texts { TextsFit texts.old.items (A.sections answer.now) }
-        requires kept { SourceFits self source.now (A.sections answer.now) kept.old }
-        ensures shown { OnOk result (PutsRead self (read_by source.now
+        requires kept { SourceFits self.form source.now (A.sections answer.now) kept.old }
+        ensures shown { OnOk result (PutsRead self.form (read_by source.now
             (readings_of (A.sections answer.now) (A.had answer.now).offsets))
             out.old.items out.new.items) }
         ensures unread { IfErr result (λ e. MemoryApart e (read_by source.now
             (readings_of (A.sections answer.now) (A.had answer.now).offsets) ≡ None)) }
         ensures texts { texts.new.items ≡ texts.old.items }
-        ensures kept { SourceFits self source.now (A.sections answer.now) kept.new }
+        ensures kept { SourceFits self.form source.now (A.sections answer.now) kept.new }
     {
         match source {
-            ColumnSource::Path(path) => {
-                kept.put_along(self, alloc, path.as_slice(), answer, out)
-            }
-            ColumnSource::Record(place) => {
-                kept.put_record(self, alloc, *place, texts, answer, out)
-            }
+            ColumnSource::Path(path) => { kept.put_along(self, path.as_slice(), answer, out) }
+            ColumnSource::Record(place) => { kept.put_record(self, *place, texts, answer, out) }
         }
     }
 
     // Adds a column of what databases have, and says whether there is a value.
+    #[inline(always)]
     fn put_column<A: Answer>(
         self,
-        alloc: Global,
         column: &Column<'_>,
         texts: &mut Vec<RecordTexts<'_>>,
         kept: &mut KeptColumn,
@@ -252,17 +260,17 @@ impl RowForm {
         out: &mut Vec<u8>,
     ) -> Result<bool, MaxMindDbError>
         requires texts { TextsFit texts.old.items (A.sections answer.now) }
-        requires kept { SourceFits self column.now.source (A.sections answer.now) kept.old }
-        ensures column { OnOk result (PutsColumn self
+        requires kept { SourceFits self.form column.now.source (A.sections answer.now) kept.old }
+        ensures column { OnOk result (PutsColumn self.form
             (readings_of (A.sections answer.now) (A.had answer.now).offsets)
             column.now out.old.items out.new.items) }
         ensures unread { IfErr result (λ e. MemoryApart e (read_by column.now.source
             (readings_of (A.sections answer.now) (A.had answer.now).offsets) ≡ None)) }
         ensures texts { texts.new.items ≡ texts.old.items }
-        ensures kept { SourceFits self column.now.source (A.sections answer.now) kept.new }
+        ensures kept { SourceFits self.form column.now.source (A.sections answer.now) kept.new }
     {
-        out.extend_from_slice(self.label(column))?;
-        self.put_read(alloc, &column.source, texts, kept, answer, out)
+        out.extend_from_slice(self.form.label(column))?;
+        self.put_read(&column.source, texts, kept, answer, out)
     }
 }
 
@@ -275,9 +283,9 @@ pub struct Columns<'a> {
 
 impl<'a> Columns<'a> {
     // Adds the column at a place, and notes whether it has a value.
+    #[inline(always)]
     fn put_noted<A: Answer>(
         &self,
-        alloc: Global,
         place: usize,
         column: &Column<'a>,
         scratch: &mut ColumnScratch<'a>,
@@ -294,18 +302,20 @@ impl<'a> Columns<'a> {
             (readings_of (A.sections answer.now) (A.had answer.now).offsets) ≡ None)) }
         ensures fits { ScratchFits self.now (A.sections answer.now) scratch.new }
     {
+        let printer = Printer {
+            form: self.form,
+            alloc: scratch.alloc,
+        };
         let (texts, kept) = (&mut scratch.texts, &mut scratch.kept[place]);
-        let has_value = self
-            .form
-            .put_column(alloc, column, texts, kept, answer, out)?;
+        let has_value = printer.put_column(column, texts, kept, answer, out)?;
         scratch.note(place, has_value);
         Ok(())
     }
 
     // Adds all columns, and notes which have a value.
+    #[inline(always)]
     fn put_columns<A: Answer>(
         &self,
-        alloc: Global,
         scratch: &mut ColumnScratch<'a>,
         answer: &A,
         out: &mut Vec<u8>,
@@ -321,7 +331,7 @@ impl<'a> Columns<'a> {
     {
         for place in 0..self.columns.len() {
             let column = &self.columns[place];
-            self.put_noted(alloc, place, column, scratch, answer, out)?;
+            self.put_noted(place, column, scratch, answer, out)?;
         }
         Ok(())
     }
@@ -347,13 +357,13 @@ impl<'a> Template for Columns<'a> {
 
     fn put_tail<A: Answer>(
         &self,
-        alloc: Global,
+        _alloc: Global,
         scratch: &mut ColumnScratch<'a>,
         answer: &A,
         out: &mut Vec<u8>,
     ) -> Result<(), MaxMindDbError> {
         out.extend_from_slice(self.form.behind_network())?;
-        self.put_columns(alloc, scratch, answer, out)?;
+        self.put_columns(scratch, answer, out)?;
         scratch.note_row();
         Ok(out.extend_from_slice(self.form.end())?)
     }

@@ -9,7 +9,7 @@ ghost use Rattle.mmdb_query_forms.specs.Kept.{AreKept, AreAllKept, KeepNone};
 ghost use Rattle.mmdb_query_forms.specs.Puts.{PutsRead, PutsFound, PutsKept};
 ghost use Rattle.mmdb_query_forms.specs.declared.columns.RowForm.{RowForm as SpecForm};
 
-use crate::columns::RowForm;
+use crate::columns::Printer;
 use mmdb_cache::Cache;
 use mmdb_json::RecordTexts;
 use mmdb_query::Answer;
@@ -37,6 +37,13 @@ impl Model for KeptColumn {
     ghost Value = { List Kept };
 
     ghost view = { λ k. k.caches.items };
+}
+
+/// Where the record of one of the databases is: the place of the database, and the offset.
+#[derive(Clone, Copy)]
+struct RecordPlace {
+    place: usize,
+    offset: usize,
 }
 
 // Adds what is kept of the record at an offset, if it is kept, and says whether there is a value.
@@ -88,33 +95,33 @@ fn keep_text(
 // Adds the value at the end of a path in the record at an offset, that of the database at a place, as it is read, and keeps it.
 // Whether there is one.
 fn put_value_anew<A: Answer>(
-    form: RowForm,
-    alloc: Global,
-    place: usize,
+    printer: Printer,
+    at: RecordPlace,
     path: &[PathElement<'_>],
-    offset: usize,
     cache: &mut Cache<Option<Vec<u8>>>,
     answer: &A,
     out: &mut Vec<u8>,
 ) -> Result<bool, MaxMindDbError>
-    requires offset { offset_at (A.had answer.now).offsets place ≡ Some offset }
-    requires kept { AreKept form path.now (get_or (A.sections answer.now) place []) cache.old }
-    ensures found { IfOk result (λ found. PutsFound form
-        (value_of (A.sections answer.now) (A.had answer.now).offsets place path.now)
+    requires offset { offset_at (A.had answer.now).offsets at.place ≡ Some at.offset }
+    requires kept { AreKept printer.form path.now
+        (get_or (A.sections answer.now) at.place []) cache.old }
+    ensures found { IfOk result (λ found. PutsFound printer.form
+        (value_of (A.sections answer.now) (A.had answer.now).offsets at.place path.now)
         found out.old.items out.new.items) }
     ensures unread { IfErr result (λ e. MemoryApart e (value_of (A.sections answer.now)
-        (A.had answer.now).offsets place path.now ≡ None)) }
-    ensures kept { AreKept form path.now (get_or (A.sections answer.now) place []) cache.new }
+        (A.had answer.now).offsets at.place path.now ≡ None)) }
+    ensures kept { AreKept printer.form path.now
+        (get_or (A.sections answer.now) at.place []) cache.new }
 {
-    match answer.read_at(alloc, place, path) {
+    match answer.read_at(printer.alloc, at.place, path) {
         Ok(Some(value)) => {
             let start = out.len();
-            form.put_value(alloc, &value, out)?;
-            keep_text(alloc, offset, start, out.as_slice(), cache);
+            printer.form.put_value(printer.alloc, &value, out)?;
+            keep_text(printer.alloc, at.offset, start, out.as_slice(), cache);
             Ok(true)
         }
         Ok(None) => {
-            cache.put(offset, None, BYTES_OF_TEXT);
+            cache.put(at.offset, None, BYTES_OF_TEXT);
             Ok(false)
         }
         Err(error) => Err(error),
@@ -123,116 +130,116 @@ fn put_value_anew<A: Answer>(
 
 // The same by what is kept of it, where it is kept, and nothing where the database has no record.
 fn put_value_at<A: Answer>(
-    form: RowForm,
-    alloc: Global,
+    printer: Printer,
     place: usize,
     path: &[PathElement<'_>],
     cache: &mut Cache<Option<Vec<u8>>>,
     answer: &A,
     out: &mut Vec<u8>,
 ) -> Result<bool, MaxMindDbError>
-    requires { AreKept form path.now (get_or (A.sections answer.now) place []) cache.old }
-    ensures found { IfOk result (λ found. PutsFound form
+    requires { AreKept printer.form path.now (get_or (A.sections answer.now) place []) cache.old }
+    ensures found { IfOk result (λ found. PutsFound printer.form
         (value_of (A.sections answer.now) (A.had answer.now).offsets place path.now)
         found out.old.items out.new.items) }
     ensures unread { IfErr result (λ e. MemoryApart e (value_of (A.sections answer.now)
         (A.had answer.now).offsets place path.now ≡ None)) }
-    ensures kept { AreKept form path.now (get_or (A.sections answer.now) place []) cache.new }
+    ensures kept { AreKept printer.form path.now
+        (get_or (A.sections answer.now) place []) cache.new }
 {
     let Some(offset) = answer.offset(place) else {
         return Ok(false);
     };
     match put_kept(offset, cache, out)? {
         Some(found) => Ok(found),
-        None => put_value_anew(form, alloc, place, path, offset, cache, answer, out),
+        None => {
+            let at = RecordPlace { place, offset };
+            put_value_anew(printer, at, path, cache, answer, out)
+        }
     }
 }
 
 // Adds the value at the end of a path, that of the first database that has one there, and says whether there is one.
 fn put_first<A: Answer>(
-    form: RowForm,
-    alloc: Global,
+    printer: Printer,
     path: &[PathElement<'_>],
     caches: &mut Vec<Cache<Option<Vec<u8>>>>,
     answer: &A,
     out: &mut Vec<u8>,
 ) -> Result<bool, MaxMindDbError>
     requires some { 0 < length caches.old.items }
-    requires kept { AreAllKept form path.now (A.sections answer.now) caches.old.items }
-    ensures shown { OnOk result (PutsRead form (values_of (A.sections answer.now)
+    requires kept { AreAllKept printer.form path.now (A.sections answer.now) caches.old.items }
+    ensures shown { OnOk result (PutsRead printer.form (values_of (A.sections answer.now)
         (A.had answer.now).offsets path.now) out.old.items out.new.items) }
     ensures unread { IfErr result (λ e. MemoryApart e (values_of (A.sections answer.now)
         (A.had answer.now).offsets path.now ≡ None)) }
-    ensures kept { AreAllKept form path.now (A.sections answer.now) caches.new.items }
+    ensures kept { AreAllKept printer.form path.now (A.sections answer.now) caches.new.items }
 {
     for place in 0..caches.len() {
-        if put_value_at(form, alloc, place, path, &mut caches[place], answer, out)? {
+        if put_value_at(printer, place, path, &mut caches[place], answer, out)? {
             return Ok(true);
         }
     }
-    form.put_none(out)?;
+    printer.form.put_none(out)?;
     Ok(false)
 }
 
 // Adds the whole record at an offset, that of the database at a place, by its texts or as it is read, and keeps it. Whether
 // there is one.
 fn put_record_anew<A: Answer>(
-    form: RowForm,
-    alloc: Global,
-    place: usize,
-    offset: usize,
+    printer: Printer,
+    at: RecordPlace,
     cache: &mut Cache<Option<Vec<u8>>>,
     texts: &mut Vec<RecordTexts<'_>>,
     answer: &A,
     out: &mut Vec<u8>,
 ) -> Result<bool, MaxMindDbError>
-    requires offset { offset_at (A.had answer.now).offsets place ≡ Some offset }
+    requires offset { offset_at (A.had answer.now).offsets at.place ≡ Some at.offset }
     requires texts { TextsFit texts.old.items (A.sections answer.now) }
-    requires kept { AreKept form [] (get_or (A.sections answer.now) place []) cache.old }
-    ensures shown { OnOk result (PutsRead form (value_of (A.sections answer.now)
-        (A.had answer.now).offsets place []) out.old.items out.new.items) }
+    requires kept { AreKept printer.form [] (get_or (A.sections answer.now) at.place []) cache.old }
+    ensures shown { OnOk result (PutsRead printer.form (value_of (A.sections answer.now)
+        (A.had answer.now).offsets at.place []) out.old.items out.new.items) }
     ensures unread { IfErr result (λ e. MemoryApart e (value_of (A.sections answer.now)
-        (A.had answer.now).offsets place [] ≡ None)) }
+        (A.had answer.now).offsets at.place [] ≡ None)) }
     ensures texts { texts.new.items ≡ texts.old.items }
-    ensures kept { AreKept form [] (get_or (A.sections answer.now) place []) cache.new }
+    ensures kept { AreKept printer.form [] (get_or (A.sections answer.now) at.place []) cache.new }
 {
     let start = out.len();
-    let has_value = form.put_record(alloc, place, texts, answer, out)?;
+    let has_value = printer
+        .form
+        .put_record(printer.alloc, at.place, texts, answer, out)?;
     if !has_value {
         return Ok(false);
     }
-    keep_text(alloc, offset, start, out.as_slice(), cache);
+    keep_text(printer.alloc, at.offset, start, out.as_slice(), cache);
     Ok(true)
 }
 
 // The same by what is kept of it, where it is kept.
 fn put_record_at<A: Answer>(
-    form: RowForm,
-    alloc: Global,
-    place: usize,
-    offset: usize,
+    printer: Printer,
+    at: RecordPlace,
     cache: &mut Cache<Option<Vec<u8>>>,
     texts: &mut Vec<RecordTexts<'_>>,
     answer: &A,
     out: &mut Vec<u8>,
 ) -> Result<bool, MaxMindDbError>
-    requires offset { offset_at (A.had answer.now).offsets place ≡ Some offset }
+    requires offset { offset_at (A.had answer.now).offsets at.place ≡ Some at.offset }
     requires texts { TextsFit texts.old.items (A.sections answer.now) }
-    requires kept { AreKept form [] (get_or (A.sections answer.now) place []) cache.old }
-    ensures shown { OnOk result (PutsRead form (value_of (A.sections answer.now)
-        (A.had answer.now).offsets place []) out.old.items out.new.items) }
+    requires kept { AreKept printer.form [] (get_or (A.sections answer.now) at.place []) cache.old }
+    ensures shown { OnOk result (PutsRead printer.form (value_of (A.sections answer.now)
+        (A.had answer.now).offsets at.place []) out.old.items out.new.items) }
     ensures unread { IfErr result (λ e. MemoryApart e (value_of (A.sections answer.now)
-        (A.had answer.now).offsets place [] ≡ None)) }
+        (A.had answer.now).offsets at.place [] ≡ None)) }
     ensures texts { texts.new.items ≡ texts.old.items }
-    ensures kept { AreKept form [] (get_or (A.sections answer.now) place []) cache.new }
+    ensures kept { AreKept printer.form [] (get_or (A.sections answer.now) at.place []) cache.new }
 {
-    match put_kept(offset, cache, out)? {
+    match put_kept(at.offset, cache, out)? {
         Some(true) => Ok(true),
         Some(false) => {
-            form.put_none(out)?;
+            printer.form.put_none(out)?;
             Ok(false)
         }
-        None => put_record_anew(form, alloc, place, offset, cache, texts, answer, out),
+        None => put_record_anew(printer, at, cache, texts, answer, out),
     }
 }
 
@@ -261,53 +268,56 @@ impl KeptColumn {
     }
 
     /// Adds the value at the end of a path, that of the first database that has one there, and says whether there is one.
+    #[inline(always)]
     pub(crate) fn put_along<A: Answer>(
         &mut self,
-        form: RowForm,
-        alloc: Global,
+        printer: Printer,
         path: &[PathElement<'_>],
         answer: &A,
         out: &mut Vec<u8>,
     ) -> Result<bool, MaxMindDbError>
-        requires { AreAllKept form path.now (A.sections answer.now) self.old }
-        ensures shown { OnOk result (PutsRead form (values_of (A.sections answer.now)
+        requires { AreAllKept printer.form path.now (A.sections answer.now) self.old }
+        ensures shown { OnOk result (PutsRead printer.form (values_of (A.sections answer.now)
             (A.had answer.now).offsets path.now) out.old.items out.new.items) }
         ensures unread { IfErr result (λ e. MemoryApart e (values_of (A.sections answer.now)
             (A.had answer.now).offsets path.now ≡ None)) }
-        ensures kept { AreAllKept form path.now (A.sections answer.now) self.new }
+        ensures kept { AreAllKept printer.form path.now (A.sections answer.now) self.new }
     {
         if self.caches.is_empty() {
-            return form.put_along(alloc, path, answer, out);
+            return printer.form.put_along(printer.alloc, path, answer, out);
         }
-        put_first(form, alloc, path, &mut self.caches, answer, out)
+        put_first(printer, path, &mut self.caches, answer, out)
     }
 
     /// Adds the whole record of the database at a place, and says whether there is one.
     pub(crate) fn put_record<A: Answer>(
         &mut self,
-        form: RowForm,
-        alloc: Global,
+        printer: Printer,
         place: usize,
         texts: &mut Vec<RecordTexts<'_>>,
         answer: &A,
         out: &mut Vec<u8>,
     ) -> Result<bool, MaxMindDbError>
         requires texts { TextsFit texts.old.items (A.sections answer.now) }
-        requires kept { AreAllKept form [] (A.sections answer.now) self.old }
-        ensures shown { OnOk result (PutsRead form (value_of (A.sections answer.now)
+        requires kept { AreAllKept printer.form [] (A.sections answer.now) self.old }
+        ensures shown { OnOk result (PutsRead printer.form (value_of (A.sections answer.now)
             (A.had answer.now).offsets place []) out.old.items out.new.items) }
         ensures unread { IfErr result (λ e. MemoryApart e (value_of (A.sections answer.now)
             (A.had answer.now).offsets place [] ≡ None)) }
         ensures texts { texts.new.items ≡ texts.old.items }
-        ensures kept { AreAllKept form [] (A.sections answer.now) self.new }
+        ensures kept { AreAllKept printer.form [] (A.sections answer.now) self.new }
     {
         if place >= self.caches.len() {
-            return form.put_record(alloc, place, texts, answer, out);
+            return printer
+                .form
+                .put_record(printer.alloc, place, texts, answer, out);
         }
         let Some(offset) = answer.offset(place) else {
-            return form.put_record(alloc, place, texts, answer, out);
+            return printer
+                .form
+                .put_record(printer.alloc, place, texts, answer, out);
         };
-        let cache = &mut self.caches[place];
-        put_record_at(form, alloc, place, offset, cache, texts, answer, out)
+        let at = RecordPlace { place, offset };
+        put_record_at(printer, at, &mut self.caches[place], texts, answer, out)
     }
 }

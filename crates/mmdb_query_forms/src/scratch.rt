@@ -13,7 +13,7 @@ use std::alloc::{AllocError, Global};
 /// What rows of columns are made with, and what is kept of the records that they show.
 #[derive(Drop)]
 pub struct ColumnScratch<'r> {
-    alloc: Global,
+    pub(crate) alloc: Global,
     /// Which columns had a value in a row that was made.
     met: Vec<bool>,
     /// Whether a row was made.

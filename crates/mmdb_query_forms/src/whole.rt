@@ -32,6 +32,7 @@ fn put_text(texts: &mut RecordTexts<'_>, offset: usize, out: &mut Vec<u8>) -> bo
 }
 
 // Adds what is read of the record of the database at a place, and notes whether it can be.
+#[inline(never)]
 fn put_noted<A: Answer>(
     alloc: Global,
     place: usize,
@@ -63,6 +64,7 @@ fn put_noted<A: Answer>(
 
 // Adds the record at an offset, that of the database at a place, by the texts of its records, or as it is read where they leave
 // it.
+#[inline(always)]
 fn put_by_texts<A: Answer>(
     alloc: Global,
     place: usize,
@@ -89,6 +91,7 @@ fn put_by_texts<A: Answer>(
 
 /// Adds the whole record of the database at a place as JSON, and says whether there is one.
 #[tactic(auto, using(crate::proofs::RecordLaws::of_section, crate::proofs::RecordLaws::written_back))]
+#[inline(always)]
 pub(crate) fn put_record<A: Answer>(
     alloc: Global,
     place: usize,

@@ -1,9 +1,11 @@
 //! Rows of the networks of some kinds in a range, in databases whose networks are known by their nodes.
 use super::databases::{FAULTY, FIRST, HALF, MIXED, Tree, WIDE, ipv6_reader_of, reader_of};
-use super::queries::{Came, Cells, Is, MOST_KEPT, Reported, is_came};
-use mmdb_blocks::Kinds;
+use super::queries::{Came, Cells, Is, MOST_KEPT, Reported, is_came, push_networks};
+use mmdb_blocks::{BlockKind, Kinds};
 use mmdb_compare::AskedDatabase;
-use mmdb_query::{Many, One, Part, QueryError, Rows, Walk, export_rows};
+use mmdb_query::{
+    Addresses, Many, One, Part, QueryError, Rows, Walk, blocks, export_rows, gather_part,
+};
 use mmdb_reader::{IpNetwork, MaxMindDbError, Reader, WithinOptions};
 use mmdb_vectors::failures::Failures;
 use std::alloc::Global;
@@ -90,6 +92,29 @@ const BESIDE: &[Beside] = &[
     Beside { trees: &[WIDE, WIDE], is_ipv6: true, asked: "1.2.3.0/24", range: "1.2.3.0/24", ipv4: false, ipv6: true, rows: "" },
 ];
 
+/// A database, whether it is one of IPv6, the range in which it is walked, all for none, and which kinds are asked for; the blocks
+/// of the addresses of its networks.
+#[derive(Clone, Copy, Debug)]
+struct Gathered {
+    tree: Tree,
+    is_ipv6: bool,
+    range: &'static str,
+    ipv4: bool,
+    ipv6: bool,
+    ipv4_blocks: &'static str,
+    ipv6_blocks: &'static str,
+}
+
+#[rattlefmt::skip]
+const GATHERED: &[Gathered] = &[
+    Gathered { tree: FIRST, is_ipv6: false, range: "", ipv4: false, ipv6: false, ipv4_blocks: "64.0.0.0/2 128.0.0.0/1 ", ipv6_blocks: "" },
+    Gathered { tree: MIXED, is_ipv6: true, range: "", ipv4: false, ipv6: false, ipv4_blocks: "0.0.0.0/0 ", ipv6_blocks: "8000::/1 " },
+    Gathered { tree: MIXED, is_ipv6: true, range: "", ipv4: true, ipv6: false, ipv4_blocks: "0.0.0.0/0 ", ipv6_blocks: "" },
+    Gathered { tree: MIXED, is_ipv6: true, range: "", ipv4: false, ipv6: true, ipv4_blocks: "", ipv6_blocks: "8000::/1 " },
+    Gathered { tree: MIXED, is_ipv6: true, range: "0.0.0.0/4", ipv4: false, ipv6: false, ipv4_blocks: "0.0.0.0/4 ", ipv6_blocks: "" },
+    Gathered { tree: WIDE, is_ipv6: true, range: "::/1", ipv4: false, ipv6: false, ipv4_blocks: "", ipv6_blocks: "::/1 " },
+];
+
 // What an error of a database is here.
 fn of_database(_error: MaxMindDbError) -> QueryError {
     QueryError::Memory
@@ -145,16 +170,44 @@ fn rows_of_part<W: Walk + Drop>(alloc: Global, part: Part<W>) -> Result<Came, Qu
     })
 }
 
-// The rows of a row of the table of one database.
-fn rows_of(alloc: Global, row: &Row) -> Result<Came, QueryError> {
-    let reader = opened(alloc, row.tree, row.is_ipv6)?;
-    let range = range_of(row.range)?;
+// The networks of a database in a range, if there is one.
+fn walk_of<'a>(
+    alloc: Global,
+    reader: &'a Reader<Vec<u8>>,
+    range: Option<IpNetwork>,
+) -> Result<One<'a, Vec<u8>>, QueryError> {
     let options = WithinOptions::default();
     let walk = match range {
         Some(range) => reader.within(alloc, range, options),
         None => reader.networks(alloc, options),
     };
-    let walk = One::new(walk.map_err(of_database)?);
+    Ok(One::new(walk.map_err(of_database)?))
+}
+
+// The blocks of a row of the table of addresses, of each kind.
+fn blocks_of(alloc: Global, row: &Gathered) -> Result<[Vec<u8>; 2], QueryError> {
+    let reader = opened(alloc, row.tree, row.is_ipv6)?;
+    let range = range_of(row.range)?;
+    let walk = walk_of(alloc, &reader, range)?;
+    let kinds = Kinds::asked(row.ipv4, row.ipv6);
+    let mut faults = Reported {
+        text: Vec::new(alloc),
+    };
+    let all = Is { text: None };
+    let (addresses, _) = gather_part(alloc, walk, kinds, range, &all, &mut faults)?;
+    let none = Addresses::new(alloc);
+    let listed = blocks(alloc, &addresses, &none, &none)?;
+    let mut texts = [Vec::new(alloc), Vec::new(alloc)];
+    push_networks(BlockKind::Ipv4, listed.ipv4.as_slice(), &mut texts[0])?;
+    push_networks(BlockKind::Ipv6, listed.ipv6.as_slice(), &mut texts[1])?;
+    Ok(texts)
+}
+
+// The rows of a row of the table of one database.
+fn rows_of(alloc: Global, row: &Row) -> Result<Came, QueryError> {
+    let reader = opened(alloc, row.tree, row.is_ipv6)?;
+    let range = range_of(row.range)?;
+    let walk = walk_of(alloc, &reader, range)?;
     let kinds = Kinds::asked(row.ipv4, row.ipv6);
     rows_of_part(alloc, Part { walk, kinds, range })
 }
@@ -185,6 +238,21 @@ fn rows_in_a_range(rt: HostRuntime) -> Result<(), Failures> {
         let came = rows_of(rt.alloc(), row);
         let reported = if row.count == 0 { "" } else { "-!" };
         failures.expect(row, is_came(&came, row.rows, reported, row.count));
+    }
+    failures.verdict()
+}
+
+#[test]
+fn addresses_in_a_range(rt: HostRuntime) -> Result<(), Failures> {
+    let mut failures = Failures::new(rt.alloc());
+    for row in GATHERED {
+        match blocks_of(rt.alloc(), row) {
+            Ok([ipv4, ipv6]) => {
+                failures.expect(row, ipv4.as_slice() == row.ipv4_blocks.as_bytes());
+                failures.expect(row, ipv6.as_slice() == row.ipv6_blocks.as_bytes());
+            }
+            Err(_) => failures.expect(row, false),
+        }
     }
     failures.verdict()
 }

@@ -210,9 +210,13 @@ fn rows_of(alloc: Global, row: &Row) -> Result<Came, QueryError> {
 }
 
 // Blocks as networks.
-pub fn push_networks(blocks: &[Block], text: &mut Vec<u8>) -> Result<(), QueryError> {
+pub fn push_networks(
+    kind: BlockKind,
+    blocks: &[Block],
+    text: &mut Vec<u8>,
+) -> Result<(), QueryError> {
     for block in blocks {
-        if let Ok(network) = BlockKind::Ipv4.network_of(*block) {
+        if let Ok(network) = kind.network_of(*block) {
             network.push_text(text)?;
             text.push(b' ')?;
         }
@@ -231,8 +235,8 @@ fn blocks_of(alloc: Global, row: &Row) -> Result<Came, QueryError> {
     let none = Addresses::new(alloc);
     let listed = blocks(alloc, &addresses, &none, &none)?;
     let mut text = Vec::new(alloc);
-    push_networks(listed.ipv4.as_slice(), &mut text)?;
-    push_networks(listed.ipv6.as_slice(), &mut text)?;
+    push_networks(BlockKind::Ipv4, listed.ipv4.as_slice(), &mut text)?;
+    push_networks(BlockKind::Ipv6, listed.ipv6.as_slice(), &mut text)?;
     Ok(Came {
         text,
         reported: faults.text,
@@ -291,8 +295,8 @@ fn list_of(alloc: Global, row: &ListRow) -> Result<Vec<u8>, QueryError> {
     let (also, except) = (set_of(alloc, row.also)?, set_of(alloc, row.except)?);
     let (listed, _) = list_all(alloc, &reader, &conditions, &also, &except, &mut faults)?;
     let mut text = Vec::new(alloc);
-    push_networks(listed.ipv4.as_slice(), &mut text)?;
-    push_networks(listed.ipv6.as_slice(), &mut text)?;
+    push_networks(BlockKind::Ipv4, listed.ipv4.as_slice(), &mut text)?;
+    push_networks(BlockKind::Ipv6, listed.ipv6.as_slice(), &mut text)?;
     Ok(text)
 }
 

@@ -1,10 +1,12 @@
 //! Rows and sets of addresses of several databases side by side, whose networks are known by their nodes.
 use super::databases::{BROKEN, FALLS, FAULTY, FIRST, HALF, RISES, Tree, reader_of};
 use super::queries::{Came, Cells, Is, MOST_KEPT, Reported, is_came, push_networks};
+use mmdb_blocks::BlockKind;
 use mmdb_compare::AskedDatabase;
 use mmdb_query::{Addresses, Many, QueryError, Rows, blocks, export_rows, gather};
 use mmdb_reader::{IpNetwork, MaxMindDbError, Reader};
 use mmdb_vectors::failures::Failures;
+use mmdb_vectors::hoard::Hoard;
 use std::alloc::Global;
 use std::net::{IpAddr, Ipv4Addr};
 
@@ -134,8 +136,8 @@ fn blocks_of(
     let none = Addresses::new(alloc);
     let listed = blocks(alloc, &addresses, &none, &none)?;
     let mut text = Vec::new(alloc);
-    push_networks(listed.ipv4.as_slice(), &mut text)?;
-    push_networks(listed.ipv6.as_slice(), &mut text)?;
+    push_networks(BlockKind::Ipv4, listed.ipv4.as_slice(), &mut text)?;
+    push_networks(BlockKind::Ipv6, listed.ipv6.as_slice(), &mut text)?;
     Ok(Came {
         text,
         reported: faults.text,
@@ -166,6 +168,21 @@ fn rows_and_addresses_of_several(rt: HostRuntime) -> Result<(), Failures> {
         let listed = blocks_of(rt.alloc(), row.trees, row.text);
         let count = if row.unmet.is_empty() { 0 } else { 1 };
         failures.expect(row, is_came(&listed, row.blocks, row.unmet, count));
+    }
+    failures.verdict()
+}
+
+/// Less memory than what conditions say of records is kept in.
+const LITTLE: usize = 1 << 20;
+
+#[test]
+fn rows_of_several_in_little_memory(rt: HostRuntime) -> Result<(), Failures> {
+    let mut failures = Failures::new(rt.alloc());
+    for row in ROWS {
+        let little = Hoard::around(rt.alloc(), LITTLE);
+        let came = rows_of(rt.alloc(), row.trees, row.text);
+        drop(little);
+        failures.expect(row, is_came(&came, row.rows, row.unread, row.count));
     }
     failures.verdict()
 }

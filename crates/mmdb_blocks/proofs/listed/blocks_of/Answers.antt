@@ -12,7 +12,7 @@ returns-clause-exact c = λ a.
     let taken = c.in_ok-push_ranges.ensures (start-kept first waiting c.new-blocks.ensures.items none c.in_ok-joiner.ensures.joining) in
     let blocks = c.push_ranges.new.blocks.items in
     let later = waiting_of c.push_ranges.new.joiner in
-    rw (c.in_ok-extend_from_slice.ensures.items, c.settled.ensures)
+    rw (c.in_ok-extend_from_slice.ensures.items, c.settled.ensures.all)
     (finished first waiting blocks later (settled_of c.finish.new.self) (λ x. IsAmong x c.args.ranges.now) c.new-blocks.ensures.items none taken (c.finish.ensures.all (blocks ++ later) blocks taken.kept) a)
 
 pub returns-clause-fewest : goal.returns-clause-fewest
@@ -23,5 +23,5 @@ returns-clause-fewest c =
     let taken = c.in_ok-push_ranges.ensures (start-kept first waiting c.new-blocks.ensures.items none c.in_ok-joiner.ensures.joining) in
     let blocks = c.push_ranges.new.blocks.items in
     let later = waiting_of c.push_ranges.new.joiner in
-    rw (c.in_ok-extend_from_slice.ensures.items, c.settled.ensures)
+    rw (c.in_ok-extend_from_slice.ensures.items, c.settled.ensures.all)
     (joined-of-itself (blocks ++ later) (blocks ++ settled_of c.finish.new.self) (c.finish.ensures.all (blocks ++ later) blocks taken.kept))

@@ -7,5 +7,5 @@ pub returns-in_ok-extend_from_slice-in-Ok : goal.returns-in_ok-extend_from_slice
 returns-in_ok-extend_from_slice-in-Ok c = λ kept.
     let blocks = c.args.blocks.now.items in
     let waiting = waiting_of c.args.joiner.now in
-    rw (c.in_ok-extend_from_slice-in-Ok.ensures.items, c.settled.ensures)
+    rw (c.in_ok-extend_from_slice-in-Ok.ensures.items, c.settled.ensures.all)
     (takes-block blocks waiting (blocks ++ settled_of c.push.new.self) (waiting_of c.push.new.self) c.args.block (c.in-Ok.ensures.ok (blocks ++ waiting) blocks kept))

@@ -1,38 +1,31 @@
 use Rattle.std.proofs.lemmas.Result.{err_from_is_err_and}
-use Rattle.std.proofs.Common.{◌∙◌, refl, subst, arith}
+use Rattle.std.proofs.Common.{◌≡◌, ◌∙◌, refl, sym, subst, arith}
 use Rattle.mmdb_query.specs.Kept.{ChoiceFits}
 use Rattle.mmdb_query.specs.Taking.{asks}
 use Rattle.mmdb_query.specs.Steps.{TakesStep}
 use Rattle.mmdb_query.proofs.KeptLaws.{fresh_choice}
-use Rattle.mmdb_query.proofs.TakeLaws.{started, none_begun, step_taken, fits_on, ended, ended_early, too_many, all_same}
+use Rattle.mmdb_query.proofs.TakeLaws.{started, step_taken, stepped_back, fits_on, ended, ended_early, too_many, all_same}
 use Rattle.mmdb_query.proofs.each.put_each.Goals as goal
 
 pub loop-init : goal.loop-init
 loop-init g c =
     let s = g.W.Walk.sections c.args.walk.now in
     let a = asks g.C.Conditions.says g.C.Conditions.is_unread g.S.Sink.puts g.S.Sink.is_unread c.args.conditions.now (g.S.Sink.form c.args.sink.now) s in
-    let choice = c.in-Ok in
     record {
       way = started g.W.Walk.comes a c.args.walk.now (g.S.Sink.took c.args.sink.now) (g.O.Write.contents c.args.out.now);
-      choice = fresh_choice g.C.Conditions.says s choice.choice choice.ensures.fresh;
+      choice = fresh_choice g.C.Conditions.says s c.new-choice.result c.new-choice.ensures.fresh;
       sink = c.requires;
-      conditions = choice.ensures.conditions;
+      conditions = c.new-choice.ensures.conditions;
       form = refl;
       sections = refl;
       few = omega arith;
     }
 
-pub returns-in_default-clause-failed : goal.returns-in_default-clause-failed
-returns-in_default-clause-failed g c =
+pub returns-in_default-clause-taken : goal.returns-in_default-clause-taken
+returns-in_default-clause-taken g c =
     let s = g.W.Walk.sections c.args.walk.now in
     let a = asks g.C.Conditions.says g.C.Conditions.is_unread g.S.Sink.puts g.S.Sink.is_unread c.args.conditions.now (g.S.Sink.form c.args.sink.now) s in
-    none_begun g.W.Walk.comes a c.args.walk.now (g.S.Sink.took c.args.sink.now) (g.O.Write.contents c.args.out.now)
-
-pub returns-in_default-next_item-clause-taken : goal.returns-in_default-next_item-clause-taken
-returns-in_default-next_item-clause-taken g c =
-    let s = g.W.Walk.sections c.args.walk.now in
-    let a = asks g.C.Conditions.says g.C.Conditions.is_unread g.S.Sink.puts g.S.Sink.is_unread c.args.conditions.now (g.S.Sink.form c.args.sink.now) s in
-    ended g.W.Walk.comes a c.args.walk.now c.loop.walk (g.S.Sink.took c.args.sink.now) (g.S.Sink.took c.loop.sink) (g.O.Write.contents c.args.out.now) (g.O.Write.contents c.loop.out) c.loop.unread c.loop.counter c.loop.invariant.way c.in_default-next_item.ensures.step
+    ended g.W.Walk.comes a c.args.walk.now c.loop.walk (g.S.Sink.took c.args.sink.now) (g.S.Sink.took c.loop.sink) (g.O.Write.contents c.args.out.now) (g.O.Write.contents c.loop.out) c.loop.unread c.loop.counter c.loop.invariant.way c.in_default.ensures.step
 
 pub loop-preserved : goal.loop-preserved
 loop-preserved g c =
@@ -54,15 +47,16 @@ loop-preserved g c =
     subst (λ m. TakesStep (asks g.C.Conditions.says g.C.Conditions.is_unread g.S.Sink.puts g.S.Sink.is_unread m (g.S.Sink.form c.args.sink.now)) sections had item added one new at after) i.conditions
     (subst (λ f. TakesStep (asks g.C.Conditions.says g.C.Conditions.is_unread g.S.Sink.puts g.S.Sink.is_unread c.loop.choice.conditions.now f) sections had item added one new at after) i.form
     c.in_ok-unread.ensures.put) in
+    let step = stepped_back g.W.Walk.comes had item c.loop.walk c.next_item.new.self c.put_item.new.walk c.in-Some.ensures.step c.put_item.ensures.walk in
     let few = i.few in
     let once = c.in_ok-unread.ensures.few in
     record {
-      way = step_taken g.W.Walk.comes of s sections had item c.args.walk.now c.loop.walk c.next_item.new.self old one new before at after c.loop.unread added c.loop.counter i.way c.in-Some.ensures.step same takes;
+      way = step_taken g.W.Walk.comes of s sections had item c.args.walk.now c.loop.walk c.put_item.new.walk old one new before at after c.loop.unread added c.loop.counter i.way step same takes;
       choice = fits_on sections (ChoiceFits g.C.Conditions.says) s item c.loop.choice c.put_item.new.choice same i.choice c.put_item.ensures.choice;
       sink = fits_on sections g.S.Sink.fits s item c.loop.sink c.put_item.new.sink same i.sink c.put_item.ensures.sink;
       conditions = c.put_item.ensures.same ∙ i.conditions;
       form = c.put_item.ensures.form ∙ i.form;
-      sections = c.next_item.ensures.sections ∙ i.sections;
+      sections = subst (λ t. t ≡ s) (sym c.put_item.ensures.sections) (subst (λ t. t ≡ s) (sym c.next_item.ensures.sections) i.sections);
       few = omega (arith, few, once);
     }
 

@@ -8,7 +8,7 @@ use Rattle.mmdb_query_forms.proofs.kept.put_first.Goals as goal
 
 pub put_value_at-requires : goal.put_value_at-requires
 put_value_at-requires g c =
-    kept_of_place c.args.form c.args.path.now (g.A.Answer.sections c.args.answer.now) c.loop-place.caches.items c.loop-place.place c.index_mut.result.now c.loop-place.invariant.kept (omega arith) c.index_mut.ensures.value
+    kept_of_place c.args.printer.form c.args.path.now (g.A.Answer.sections c.args.answer.now) c.loop-place.caches.items c.loop-place.place c.index_mut.result.now c.loop-place.invariant.kept (omega arith) c.index_mut.ensures.value
 
 pub returns-in_err-put_value_at-clause-unread : goal.returns-in_err-put_value_at-clause-unread
 returns-in_err-put_value_at-clause-unread g c =
@@ -20,11 +20,11 @@ returns-in_err-put_value_at-clause-unread g c =
     let many = c.requires.kept.many c.requires.some in
     let p = err_from_is_err_and c.from_residual.result c.from_residual.ensures.1 in
     rw (p.1, p.2) (apart_map (value_of sections offsets i path ≡ None) (values_of sections offsets path ≡ None) c.in_err-put_value_at.field-0.0
-    (unread_there path c.args.form sections offsets i (omega (arith, long, many)) c.loop-place.invariant.way) c.in_err-put_value_at.ensures.unread)
+    (unread_there path c.args.printer.form sections offsets i (omega (arith, long, many)) c.loop-place.invariant.way) c.in_err-put_value_at.ensures.unread)
 
 pub returns-then-branch-clause-shown : goal.returns-then-branch-clause-shown
 returns-then-branch-clause-shown g c =
-    let form = c.args.form in
+    let form = c.args.printer.form in
     let path = c.args.path.now in
     let sections = g.A.Answer.sections c.args.answer.now in
     let offsets = (g.A.Answer.had c.args.answer.now).offsets in
@@ -38,7 +38,7 @@ returns-then-branch-clause-shown g c =
 
 pub loop-place-preserved : goal.loop-place-preserved
 loop-place-preserved g c =
-    let form = c.args.form in
+    let form = c.args.printer.form in
     let path = c.args.path.now in
     let sections = g.A.Answer.sections c.args.answer.now in
     let offsets = (g.A.Answer.had c.args.answer.now).offsets in

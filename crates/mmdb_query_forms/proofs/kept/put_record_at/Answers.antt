@@ -5,28 +5,28 @@ use Rattle.mmdb_query_forms.proofs.kept.put_record_at.Goals as goal
 
 pub returns-in-Some-true-clause-shown : goal.returns-in-Some-true-clause-shown
 returns-in-Some-true-clause-shown g c =
-    let form = c.args.form in
-    let s = get_or (g.A.Answer.sections c.args.answer.now) c.args.place [] in
+    let form = c.args.printer.form in
+    let s = get_or (g.A.Answer.sections c.args.answer.now) c.args.at.place [] in
     let old = c.args.out.now.items in
     let new = c.put_kept.new.out.items in
-    let put = subst (λ f. PutsKept form c.args.cache.now c.args.offset f old new) (c.in-Some-true.is ∙ ap Some c.in-Some-true.field-0-test) (c.in_ok-put_kept.ensures form) in
+    let put = subst (λ f. PutsKept form c.args.cache.now c.args.at.offset f old new) (c.in-Some-true.is ∙ ap Some c.in-Some-true.field-0-test) (c.in_ok-put_kept.ensures form) in
     let (tree, some, puts) = subst (λ o. PutsFound form (reads_in value_found s o []) true old new) (sym c.requires.offset) (put [] s c.requires.kept) in
     (Some tree, some, puts)
 
 pub returns-in_ok-put_none-in-Some-false-clause-shown : goal.returns-in_ok-put_none-in-Some-false-clause-shown
 returns-in_ok-put_none-in-Some-false-clause-shown g c =
-    let form = c.args.form in
-    let s = get_or (g.A.Answer.sections c.args.answer.now) c.args.place [] in
+    let form = c.args.printer.form in
+    let s = get_or (g.A.Answer.sections c.args.answer.now) c.args.at.place [] in
     let old = c.args.out.now.items in
     let new = c.put_kept.new.out.items in
-    let put = subst (λ f. PutsKept form c.args.cache.now c.args.offset f old new) (c.in-Some-false.is ∙ ap Some c.in-Some-false.field-0-test) (c.in_ok-put_kept.ensures form) in
+    let put = subst (λ f. PutsKept form c.args.cache.now c.args.at.offset f old new) (c.in-Some-false.is ∙ ap Some c.in-Some-false.field-0-test) (c.in_ok-put_kept.ensures form) in
     let (none, same) = subst (λ o. PutsFound form (reads_in value_found s o []) false old new) (sym c.requires.offset) (put [] s c.requires.kept) in
     let (shown, shows, grown) = c.in_ok-put_none-in-Some-false.ensures in
     (None, none, (shown, shows, grown ∙ ap (λ t. t ++ shown) same))
 
 pub returns-in-None-clause-shown : goal.returns-in-None-clause-shown
 returns-in-None-clause-shown g c =
-    let form = c.args.form in
-    let read = value_of (g.A.Answer.sections c.args.answer.now) (g.A.Answer.had c.args.answer.now).offsets c.args.place [] in
-    let same = subst (λ f. PutsKept form c.args.cache.now c.args.offset f c.args.out.now.items c.put_kept.new.out.items) c.in-None.is (c.in_ok-put_kept.ensures form) in
+    let form = c.args.printer.form in
+    let read = value_of (g.A.Answer.sections c.args.answer.now) (g.A.Answer.had c.args.answer.now).offsets c.args.at.place [] in
+    let same = subst (λ f. PutsKept form c.args.cache.now c.args.at.offset f c.args.out.now.items c.put_kept.new.out.items) c.in-None.is (c.in_ok-put_kept.ensures form) in
     subst (λ t. OnOk c.put_record_anew.result (PutsRead form read t c.put_record_anew.new.out.items)) same c.put_record_anew.ensures.shown

@@ -5,7 +5,7 @@ use Rattle.mmdb_query_forms.proofs.kept.put_value_at.Goals as goal
 
 pub returns-in-Some-2-clause-found : goal.returns-in-Some-2-clause-found
 returns-in-Some-2-clause-found g c =
-    let form = c.args.form in
+    let form = c.args.printer.form in
     let path = c.args.path.now in
     let s = get_or (g.A.Answer.sections c.args.answer.now) c.args.place [] in
     let old = c.args.out.now.items in
@@ -15,7 +15,7 @@ returns-in-Some-2-clause-found g c =
 
 pub returns-in-None-clause-found : goal.returns-in-None-clause-found
 returns-in-None-clause-found g c =
-    let form = c.args.form in
+    let form = c.args.printer.form in
     let read = value_of (g.A.Answer.sections c.args.answer.now) (g.A.Answer.had c.args.answer.now).offsets c.args.place c.args.path.now in
     let old = c.args.out.now.items in
     let same = subst (λ f. PutsKept form c.args.cache.now c.in-Some.offset f old c.put_kept.new.out.items) c.in-None.is (c.in_ok-found.ensures form) in

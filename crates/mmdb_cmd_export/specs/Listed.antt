@@ -1,0 +1,129 @@
+-- What is written of a list whose addresses were gathered first.
+use Rattle.std.specs.Prelude.{◌≡◌, ◌<◌, ◌^◌, ◌⊎◌, ◌↔◌, ◌||◌, Bool, true, false, ℕ, List, [], ◌++◌, Option, Result, Ok, Err}
+use Rattle.std.specs.Io.KnownBytes.{Appends}
+use Rattle.mmdb_blocks.specs.Blocks.{IsIn, IsJoined}
+use Rattle.mmdb_blocks.specs.Kinds.{IsWanted}
+use Rattle.mmdb_blocks.specs.Lists.{Page, Listing, beginning_left, finished_text, finished_page, no_networks, IsEndOf}
+use Rattle.mmdb_blocks.specs.ListTexts.{kind_text, PushesAll}
+use Rattle.mmdb_blocks.specs.Texts.{beginning_of, breaking_of}
+use Rattle.mmdb_blocks.specs.declared.block.Block.{Block}
+use Rattle.mmdb_blocks.specs.declared.kind.BlockKind.{BlockKind}
+use Rattle.mmdb_blocks.specs.declared.kind.BlockKind.TheVariants.{Ipv4, Ipv6}
+use Rattle.mmdb_blocks.specs.declared.kind.Kinds.{Kinds}
+use Rattle.mmdb_blocks.specs.declared.list.BlocksError.{BlocksError}
+use Rattle.mmdb_blocks.specs.declared.list.BlocksError.TheVariants.{Write as ListWrite, OutOfOrder as ListOutOfOrder, Memory as ListMemory}
+use Rattle.mmdb_blocks.specs.declared.ranges.RangesError.{RangesError}
+use Rattle.mmdb_blocks.specs.declared.ranges.RangesError.TheVariants.{OutOfOrder as RangesOutOfOrder, Memory as RangesMemory}
+use Rattle.mmdb_blocks.specs.declared.syntax.Action.TheVariants.{Fill}
+use Rattle.mmdb_blocks.specs.declared.syntax.Syntax.{Syntax}
+use Rattle.mmdb_blocks.specs.declared.syntax.Syntax.TheVariants.{Cidr}
+use Rattle.mmdb_console.specs.declared.error.ProgramError.{ProgramError}
+use Rattle.mmdb_console.specs.declared.error.ProgramError.TheVariants.{Write, OutOfOrder, EmptyList, Memory}
+use Rattle.mmdb_cmd_export.specs.Gathered.{IsListedOf}
+use Rattle.mmdb_query.specs.declared.addresses.Addresses.{Addresses as Chosen}
+use Rattle.mmdb_cmd_export.specs.declared.gathering.Adjustment.{Adjustment}
+use Rattle.mmdb_cmd_export.specs.declared.task.ExportTask.{ExportTask}
+use Rattle.mmdb_cmd_export.specs.declared.task.Shape.{Shape}
+use Rattle.mmdb_cmd_export.specs.declared.task.Shape.TheVariants.{List as ListShape}
+
+-- ---- the text
+
+-- the blocks are the fewest that have exactly the addresses of a kind that a list has
+pub record AreFewestOf (kind : BlockKind) (chosen : Chosen) (adjustment : Adjustment) (blocks : List Block) : Type 0 where
+  pub exact : (address : ℕ) → address < 2 ^ 128 → IsIn address blocks ↔ IsListedOf kind chosen adjustment address
+  pub fewest : IsJoined blocks blocks
+
+-- of a kind that is not wanted there are none
+abbrev pub AreFewestWanted : Kinds → BlockKind → Chosen → Adjustment → List Block → Type 0
+AreFewestWanted kinds kind chosen adjustment blocks = (IsWanted kinds kind × AreFewestOf kind chosen adjustment blocks) ⊎ (¬ IsWanted kinds kind × (blocks ≡ []))
+
+-- what ends a list, as its page says, of which all networks could be read or not
+abbrev pub EndsList : Bool → Page → List ℕ → Type 0
+EndsList true page text = IsEndOf page text
+EndsList false page text = text ≡ breaking_of page.syntax
+
+-- The text of a list: what comes before all networks, of each wanted kind the fewest blocks of its addresses, and what ends it.
+pub record IsListText (syntax : Syntax) (kinds : Kinds) (chosen : Chosen) (adjustment : Adjustment) (is_whole : Bool) (text : List ℕ) : Type 0 where
+  pub ipv4 : List Block
+  pub ipv6 : List Block
+  pub ending : List ℕ
+  pub ipv4_is : AreFewestWanted kinds Ipv4 chosen adjustment ipv4
+  pub ipv6_is : AreFewestWanted kinds Ipv6 chosen adjustment ipv6
+  pub ends : EndsList is_whole (no_networks syntax kinds Fill).page ending
+  pub text_is : text ≡ beginning_of syntax kinds ++ kind_text syntax Ipv4 Fill ipv4 ++ kind_text syntax Ipv6 Fill ipv6 ++ ending
+
+-- ---- lists without networks
+
+-- a list has an address of a wanted kind
+abbrev pub HasAddress : Kinds → Chosen → Adjustment → Type 0
+HasAddress kinds chosen adjustment = (kind : BlockKind) × (address : ℕ) × IsWanted kinds kind × (address < 2 ^ 128) × IsListedOf kind chosen adjustment address
+
+-- a list of plain blocks may lack networks
+abbrev pub may_lack_of : Shape → Bool
+may_lack_of (ListShape Cidr) = true
+may_lack_of _ = false
+
+-- a list may have no networks
+abbrev pub may_be_empty_of : ExportTask → Bool
+may_be_empty_of task = task.allow_empty || may_lack_of task.shape
+
+-- Why a list is not written. Where it would have no networks, and may not, nothing is written.
+abbrev pub ListFails : ExportTask → Chosen → Adjustment → Option (List ℕ) → Option (List ℕ) → ProgramError → Type 0
+ListFails task chosen adjustment before after EmptyList =
+    (may_be_empty_of task ≡ false) × ¬ HasAddress task.kinds chosen adjustment × Appends before after []
+ListFails task chosen adjustment before after OutOfOrder = Unit {0}
+ListFails task chosen adjustment before after Memory = Unit {0}
+ListFails task chosen adjustment before after (Write e) = Unit {0}
+ListFails task chosen adjustment before after _ = ⊥
+
+-- ---- its parts
+
+-- blocks of a kind are pushed, if it is wanted, and this text is printed of them
+abbrev pub ArePushed : BlockKind → List Block → Listing → List ℕ → Listing → Type 0
+ArePushed kind blocks old text new = (IsWanted old.page.kinds kind × PushesAll kind blocks old text new)
+    ⊎ (¬ IsWanted old.page.kinds kind × (new ≡ old) × (text ≡ []))
+
+-- the fewest blocks of a kind are pushed, if it is wanted
+abbrev pub PushesListed : Kinds → BlockKind → Chosen → Adjustment → Listing → List ℕ → Listing → Type 0
+PushesListed kinds kind chosen adjustment old text new =
+    (blocks : List Block) × AreFewestWanted kinds kind chosen adjustment blocks × PushesAll kind blocks old text new
+
+-- what is left of a list, what comes before all networks where there are none, and what comes after them
+abbrev pub IsFinished : Listing → Bool → List ℕ → Type 0
+IsFinished list is_whole text = (ending : List ℕ) × EndsList is_whole (finished_page list) ending
+    × (text ≡ finished_text list ++ beginning_left (finished_page list) ++ ending)
+
+-- a list is ended that has networks or may have none
+abbrev pub MayEnd : Listing → Bool → Type 0
+MayEnd list may_be_empty = (may_be_empty ≡ true) ⊎ ((finished_page list).has_begun ≡ true)
+
+-- it has none and may not, and nothing was written but what was left; or the output failed, or memory is out
+abbrev pub EndFails : Listing → Bool → Option (List ℕ) → Option (List ℕ) → ProgramError → Type 0
+EndFails list may_be_empty before after EmptyList =
+    (may_be_empty ≡ false) × ((finished_page list).has_begun ≡ false) × Appends before after (finished_text list)
+EndFails list may_be_empty before after Memory = Unit {0}
+EndFails list may_be_empty before after (Write e) = Unit {0}
+EndFails list may_be_empty before after _ = ⊥
+
+-- ---- errors
+
+-- an error of a list or of ranges, as the program reports it
+abbrev pub list_error : BlocksError → ProgramError
+list_error (ListWrite e) = Write e
+list_error ListOutOfOrder = OutOfOrder
+list_error ListMemory = Memory
+
+abbrev pub ranges_error : RangesError → ProgramError
+ranges_error RangesOutOfOrder = OutOfOrder
+ranges_error RangesMemory = Memory
+
+abbrev pub list_result : Result (Unit {0}) BlocksError → Result (Unit {0}) ProgramError
+list_result (Ok done) = Ok done
+list_result (Err e) = Err (list_error e)
+
+-- it is one of these
+abbrev pub IsOfList : ProgramError → Type 0
+IsOfList (Write e) = Unit {0}
+IsOfList OutOfOrder = Unit {0}
+IsOfList Memory = Unit {0}
+IsOfList _ = ⊥

@@ -1,0 +1,2 @@
+mod AskedLaws
+mod PrintedLaws
