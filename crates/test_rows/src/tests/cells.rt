@@ -1,7 +1,7 @@
 //! Columns, addresses in them, and cells of CSV.
 use super::streams::{Seen, assert_at};
 use mmdb_addresses::Reading;
-use mmdb_cmd_enrich::{Enrichment, RowMemory};
+use mmdb_cmd_enrich::{Enrichment, Notes, OneDatabase, RowCells};
 use mmdb_filter::{Counts, Live, Rows, filter_rows, put_csv_cell};
 use mmdb_reader::{PathElement, Reader};
 use mmdb_vectors::builder::{BASE_NODE, changed_file};
@@ -69,17 +69,18 @@ fn enriched_by<I: Live, W: Write>(
     input: &mut I,
     out: &mut W,
 ) -> bool {
-    let Ok(mut memory) = RowMemory::new(alloc) else {
-        return false;
-    };
-    let enrichment = Enrichment {
-        alloc,
-        reader,
+    let what = RowCells {
         rows,
         reading,
         column,
         breaks: None,
+        network: false,
         paths: whole_record(alloc),
+    };
+    let from = OneDatabase { reader };
+    let enrichment = Enrichment { alloc, from, what };
+    let Ok(mut memory) = enrichment.memory(Notes::new(alloc)) else {
+        return false;
     };
     filter_rows(
         alloc,
