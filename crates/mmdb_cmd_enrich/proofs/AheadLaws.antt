@@ -1,5 +1,5 @@
 -- Addresses of rows ahead.
-use Rattle.std.proofs.Common.{◌≡◌, ℕ, ◌+◌, ◌<◌, ◌≤◌, List, Some, length, take, get_or, set, arith, sym, ap, ◌∙◌, subst, inl, inr}
+use Rattle.std.proofs.Common.{◌≡◌, ℕ, ◌+◌, ◌<◌, ◌≤◌, List, [], ◌∷◌, ◌++◌, Some, length, take, drop, get_or, set, arith, sym, ap, ◌∙◌, subst, inl, inr}
 use Rattle.std.proofs.lemmas.List.{get_or-set_same, get_or-set_other, get_or-take, length-take-le}
 use Rattle.std.proofs.lemmas.Option.{slice_get_within, slice_get-get_or, get_or_from_slice_get}
 use Rattle.std.proofs.lemmas.Bool.{cases_lt}
@@ -12,7 +12,8 @@ use Rattle.mmdb_addresses.specs.declared.address_text.AddressText.{AddressText}
 use Rattle.mmdb_reader.specs.File.{Database}
 use Rattle.mmdb_reader.specs.Many.{IsFoundFor}
 use Rattle.mmdb_tree.specs.declared.group.FoundLeaf.{FoundLeaf}
-use Rattle.mmdb_cmd_enrich.specs.Ahead.{AreSpelled, AreFound}
+use Rattle.mmdb_cmd_enrich.specs.Ahead.{AreSpelled, AreFound, AreFoundIn}
+use Rattle.mmdb_cmd_enrich.specs.declared.leaves.Leaves.{Leaves}
 
 -- one more text, with the address in it
 pub spelled_more : (reading : Reading) (texts : List AddressText) (addresses : List IpAddr) (count : ℕ) (copy : AddressText) (address : IpAddr)
@@ -51,3 +52,17 @@ pub leaf_found : (db : Database) (addresses : List IpAddr) (leaves : List FoundL
 leaf_found db addresses leaves number address leaf are is =
     let same = get_or_from_slice_get addresses number address address is in
     subst (λ (a : IpAddr). IsFoundFor db a (get_or leaves number leaf)) same (are number address leaf (slice_get_within addresses number address is))
+
+-- of the first database it is known where walks end, where it is of any
+pub first_found : (db : Database) (dbs : List Database) (addresses : List IpAddr) (all : List Leaves) (other : Leaves)
+    → 1 ≤ length all → AreFoundIn (db ∷ dbs) addresses all → AreFound db addresses (get_or all 0 other).leaves
+first_found db dbs addresses [] other some are = absurd (omega (arith, some))
+first_found db dbs addresses (leaves ∷ others) other some are = are.0
+
+-- one more database, of which it is known too
+pub found_more : (dbs left : List Database) (db : Database) (addresses : List IpAddr) (all : List Leaves) (more : Leaves)
+    → drop (length all) dbs ≡ db ∷ left → AreFoundIn dbs addresses all → AreFound db addresses more.leaves → AreFoundIn dbs addresses (all ++ (more ∷ []))
+found_more [] left db addresses [] more next are is = tt
+found_more (first ∷ dbs) left db addresses [] more next are is = let same : first ≡ db = cc in (subst (λ d. AreFound d addresses more.leaves) (sym same) is, tt)
+found_more [] left db addresses (leaves ∷ all) more next are is = tt
+found_more (first ∷ dbs) left db addresses (leaves ∷ all) more next are is = (are.0, found_more dbs left db addresses all more next are.1 is)

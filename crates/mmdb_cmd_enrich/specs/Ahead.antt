@@ -1,5 +1,5 @@
 -- What is remembered of rows ahead: the addresses that they have, each with its text; and where their walks end.
-use Rattle.std.specs.Prelude.{◌≡◌, ℕ, ◌<◌, ◌≤◌, List, take, length, Option, Some, None, IfSome, ⊤, slice_index_or}
+use Rattle.std.specs.Prelude.{◌≡◌, ℕ, ◌<◌, ◌≤◌, List, [], ◌∷◌, take, length, Option, Some, None, IfSome, ⊤, slice_index_or}
 use Rattle.std.specs.List.{slice_get}
 use Rattle.std.specs.declared.net.ip_addr.IpAddr.{IpAddr}
 use Rattle.mmdb_tree.specs.declared.group.FoundLeaf.{FoundLeaf}
@@ -11,6 +11,7 @@ use Rattle.mmdb_addresses.specs.declared.readings.Reading.{Reading}
 use Rattle.mmdb_addresses.specs.declared.address_text.AddressText.{AddressText}
 use Rattle.mmdb_cmd_enrich.specs.declared.ahead.Ahead.{Ahead}
 use Rattle.mmdb_cmd_enrich.specs.declared.ahead.RowAddress.{RowAddress}
+use Rattle.mmdb_cmd_enrich.specs.declared.leaves.Leaves.{Leaves}
 
 -- In each of the first texts the address at its index is.
 abbrev pub AreSpelled : Reading → List AddressText → List IpAddr → ℕ → Type 0
@@ -34,6 +35,12 @@ IsNumberOf addresses (Some number) address = slice_get addresses number ≡ Some
 abbrev pub AreFound : Database → List IpAddr → List FoundLeaf → Type 0
 AreFound db addresses leaves = (i : ℕ) (address : IpAddr) (leaf : FoundLeaf) → i < length addresses → IsFoundFor db (slice_index_or addresses i address) (slice_index_or leaves i leaf)
 
--- the same where there is an address
+-- The same in each of the first databases. Of those after them nothing is known.
+abbrev pub AreFoundIn : List Database → List IpAddr → List Leaves → Type 0
+AreFoundIn dbs addresses [] = ⊤
+AreFoundIn [] addresses (leaves ∷ others) = ⊤
+AreFoundIn (db ∷ dbs) addresses (leaves ∷ others) = AreFound db addresses leaves.leaves × AreFoundIn dbs addresses others
+
+-- a number of an address, where there is one
 abbrev pub IsNumbered : List IpAddr → RowAddress → Type 0
 IsNumbered addresses row = IfSome row.address (IsNumberOf addresses row.number)

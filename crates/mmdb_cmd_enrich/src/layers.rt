@@ -1,8 +1,12 @@
 //! What several databases have for an address.
-ghost use Rattle.std.specs.Prelude.{◌≡◌, Option, None, IfOk, IfSome, OnErr, IsTrue, true, is_some, map, List};
+ghost use Rattle.std.specs.Prelude.{◌≡◌, ◌∷◌, Option, None, IfOk, IfSome, OnErr, IsTrue, true, is_some, map, List};
+ghost use Rattle.std.specs.declared.net.ip_addr.IpAddr.{IpAddr as SpecIpAddr};
 ghost use Rattle.std.specs.Bool.{MatchBool};
 ghost use Rattle.mmdb_layout.specs.Reading.{IsReadAs, reads_of};
+ghost use Rattle.mmdb_reader.specs.File.{Database};
 ghost use Rattle.mmdb_reader.specs.Lookup.{CanAsk};
+ghost use Rattle.mmdb_reader.specs.Many.{IsFoundFor};
+ghost use Rattle.mmdb_cmd_enrich.specs.Ahead.{IsNumberOf, AreFoundIn};
 ghost use Rattle.mmdb_cmd_enrich.specs.Layers.{CanAskAny, CanAskNone, Rejects, AnyRejects, has_record as spec_has_record, IsKey};
 ghost use Rattle.mmdb_cmd_enrich.specs.Networks.{smaller as spec_smaller, depth_of as spec_depth_of};
 ghost use Rattle.mmdb_cmd_enrich.specs.Records.{answer_read};
@@ -11,10 +15,11 @@ ghost use Rattle.mmdb_cmd_enrich.specs.Working.{IsAnswer, AreAnswers, IsKeyAfter
 use crate::ask::Ask;
 use crate::asked::asked_of;
 use crate::found::FoundRecords;
+use crate::leaves::{Leaves, look_up_found};
 use crate::notes::{Notes, note_rejected_by};
 use mmdb_layout::ReadAlong;
 use mmdb_net::IpNetwork;
-use mmdb_reader::{LookupResult, MaxMindDbError, PathElement, Reader};
+use mmdb_reader::{FoundLeaf, LookupResult, MaxMindDbError, PathElement, Reader};
 use mmdb_value::Value;
 use std::alloc::{AllocError, Global};
 use std::convert::AsSlice;
@@ -46,6 +51,8 @@ pub struct Layers<'a, S: AsSlice<u8> + Drop> {
 pub struct LayersRoom<'a, S: AsSlice<u8> + Drop> {
     layers: Layers<'a, S>,
     is_found: bool,
+    /// Where the walks of addresses end in the first databases.
+    leaves: Vec<Leaves>,
 }
 
 // Whether a database can be asked for an address.
@@ -72,12 +79,14 @@ pub(crate) fn can_ask_any<S: AsSlice<u8> + Drop>(readers: &[Reader<S>], address:
     false
 }
 
-// What a database has for an address: nothing where it can't be asked for it.
+// What a database has for an address, of which it may be known where its walk ends: nothing where it can't be asked for it.
 #[inline(always)]
 fn answer_of<'a, S: AsSlice<u8> + Drop>(
     reader: &'a Reader<S>,
     address: IpAddr,
+    leaf: Option<FoundLeaf>,
 ) -> Result<Option<LookupResult<'a, S>>, MaxMindDbError>
+    requires { IfSome leaf (IsFoundFor reader.now address) }
     ensures answered { IfOk result (λ answer. IsAnswer reader.now address answer) }
     ensures rejected { OnErr result (Rejects reader.now address) }
 {
@@ -85,7 +94,26 @@ fn answer_of<'a, S: AsSlice<u8> + Drop>(
     if !can_ask(reader, asked) {
         return Ok(None);
     }
-    Ok(Some(reader.lookup(asked)?))
+    Ok(Some(look_up_found(reader, address, asked, leaf)?))
+}
+
+// Where the walk of an address ends in the next database, by the address's number, where that is known. Those of the databases
+// after it are left.
+#[inline(always)]
+fn next_leaf(left: &mut &[Leaves], number: Option<usize>) -> Option<FoundLeaf>
+    ensures found { (db : Database) (dbs : List Database) (addresses : List SpecIpAddr)
+        (address : SpecIpAddr) → AreFoundIn (db ∷ dbs) addresses left.old.now
+        → IsNumberOf addresses number address → IfSome result (IsFoundFor db address) }
+    ensures left { (db : Database) (dbs : List Database) (addresses : List SpecIpAddr)
+        → AreFoundIn (db ∷ dbs) addresses left.old.now → AreFoundIn dbs addresses left.new.now }
+{
+    match *left {
+        [first, others @ ..] => {
+            *left = others;
+            first.at(number)
+        }
+        [] => None,
+    }
 }
 
 // Where the record of an answer is, if there is one.
@@ -181,13 +209,18 @@ impl<'a, S: AsSlice<u8> + Drop> Layers<'a, S> {
         if self.has_record() { smallest } else { None }
     }
 
-    /// Looks an address up in each database, and says whether no lookup failed.
+    /// Looks an address up in each database, of the first of which it may be known where its walk ends, and says whether no lookup
+    /// failed.
     #[inline(always)]
     pub(crate) fn look_up(
         &mut self,
         readers: &'a [Reader<S>],
         address: IpAddr,
+        number: Option<usize>,
+        leaves: &[Leaves],
     ) -> Result<bool, AllocError>
+        requires { (addresses : List SpecIpAddr) × AreFoundIn readers.now addresses leaves.now
+            × IsNumberOf addresses number address }
         ensures readers { self.new.readers.now ≡ readers.now }
         ensures found { IfOk result (λ is_done. MatchBool is_done
             (AreAnswers readers.now address self.new.answers.items
@@ -197,8 +230,10 @@ impl<'a, S: AsSlice<u8> + Drop> Layers<'a, S> {
         self.readers = readers;
         self.answers.clear();
         self.key = Some(0);
+        let mut left = leaves;
         for reader in readers {
-            let Ok(answer) = answer_of(reader, address) else {
+            let leaf = next_leaf(&mut left, number);
+            let Ok(answer) = answer_of(reader, address, leaf) else {
                 return Ok(false);
             };
             self.key = longer_key(reader, self.key, offset_of(&answer));
@@ -339,7 +374,7 @@ impl<'a, S: AsSlice<u8> + Drop> FoundRecords for Layers<'a, S> {
 }
 
 impl<'a, S: AsSlice<u8> + Drop> Ask for Databases<'a, S> {
-    ghost use Rattle.std.specs.Prelude.{Some, if◌then◌else◌, ⊤};
+    ghost use Rattle.std.specs.Prelude.{Some, if◌then◌else◌};
     ghost use Rattle.mmdb_cmd_enrich.specs.Answered.{IsAnswered};
     ghost use Rattle.mmdb_cmd_enrich.specs.Working.{AreAnswersOf};
 
@@ -349,7 +384,8 @@ impl<'a, S: AsSlice<u8> + Drop> Ask for Databases<'a, S> {
 
     ghost databases = { λ all. all.readers.now };
 
-    ghost knows = { λ _ _ _. ⊤ };
+    ghost knows = { λ all room addresses.
+        AreFoundIn all.readers.now addresses room.leaves.items };
 
     ghost has = { λ all room address. IsAnswered
         (λ layers dbs. AreAnswersOf dbs layers.answers.items
@@ -369,27 +405,39 @@ impl<'a, S: AsSlice<u8> + Drop> Ask for Databases<'a, S> {
                 key: None,
             },
             is_found: false,
+            leaves: Vec::new(alloc),
         }
     }
 
     fn is_large(&self) -> bool {
-        false
+        self.readers.iter().any(|reader| reader.outgrows_caches())
     }
 
-    fn find(&self, _room: &mut LayersRoom<'a, S>, _addresses: &[IpAddr]) {}
+    // Where there is no memory, of the databases up to there alone.
+    fn find(&self, room: &mut LayersRoom<'a, S>, addresses: &[IpAddr]) {
+        room.leaves.clear();
+        for reader in self.readers {
+            let mut leaves = Leaves::none();
+            leaves.find(reader, addresses);
+            if room.leaves.push(leaves).is_err() {
+                return;
+            }
+        }
+    }
 
     #[inline(always)]
     fn key(
         &self,
         room: &mut LayersRoom<'a, S>,
         address: &IpAddr,
-        _number: Option<usize>,
+        number: Option<usize>,
     ) -> Result<Option<usize>, AllocError> {
         room.is_found = false;
         if !can_ask_any(self.readers, *address) {
             return Ok(None);
         }
-        if !room.layers.look_up(self.readers, *address)? {
+        let leaves = room.leaves.as_slice();
+        if !room.layers.look_up(self.readers, *address, number, leaves)? {
             return Ok(None);
         }
         room.is_found = true;

@@ -15,7 +15,7 @@ use crate::row_cells::RowCells;
 use crate::task::{JsonTask, LINES, RowsTask, json_task, rows_task};
 use crate::template::Template;
 use crate::warnings::{AddressPlace, Remembering, Warnings};
-use crate::watch::Watch;
+use crate::watch::{Watch, WatchedRows};
 use mmdb_arguments::EnrichArguments;
 use mmdb_console::{Console, Pace, ProgramError, ProgressLine, line_of};
 use mmdb_filter::{Additions, Counts, Live, MOST_ASKED, Rows, filter_rows, has_room};
@@ -194,17 +194,13 @@ fn filter<A: Additions, R: Files + Clock, I: Live, O: Write, E: Pace>(
     let alloc = console.alloc;
     let bytes = Cell::new(passage.bytes);
     let line = ProgressLine::new(alloc, "lines", console.errors);
-    let mut watch = Watch::new(
-        alloc,
-        line,
-        &bytes,
-        passage.kind.size,
-        !passage.is_checked,
-        passage.notes.is_quiet(),
-        passage.notes.before,
-        &mut passage.lookout,
-        passage.rt,
-    );
+    let rows = WatchedRows {
+        size: passage.kind.size,
+        stops: !passage.is_checked,
+        is_quiet: passage.notes.is_quiet(),
+        before: passage.notes.before,
+    };
+    let mut watch = Watch::new(alloc, line, rows, &bytes, &mut passage.lookout, passage.rt);
     let mut out = Output::new(console.out, passage.kind.is_live);
     let mut counted = Counted {
         input,
