@@ -2,7 +2,6 @@
 use crate::changes::{Changes, kind_of, network_of};
 use crate::counts::ChangeCounts;
 use crate::differences::{FoundInBoth, Pairs, UnreadableValue, put_names};
-use crate::same::are_all_readable;
 use crate::two_databases::{TwoDatabases, open_two};
 use mmdb_arguments::{DiffArguments, NoRequest};
 use mmdb_blocks::{BlockKind, Kinds};
@@ -575,9 +574,7 @@ fn diff_databases<'a, O: Write, E: Pace>(
         return Ok(FAILED);
     }
     note_absent(task, databases, range, console)?;
-    if databases.have_same_bytes()
-        && are_all_readable(console.alloc, databases.old(), range, &task.layout)
-    {
+    if task.range.is_none() && databases.are_same_and_readable(console.alloc) {
         return report_none(task, console);
     }
     compare_range(databases, range, task, console)

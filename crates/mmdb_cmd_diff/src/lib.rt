@@ -5,7 +5,6 @@ mod changes;
 mod comparison;
 mod counts;
 mod differences;
-mod same;
 mod texts;
 mod two_databases;
 
