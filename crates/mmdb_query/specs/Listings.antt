@@ -7,6 +7,8 @@ use Rattle.mmdb_blocks.specs.Lists.{Listing, Pushes, changed_text, changed_waiti
 use Rattle.mmdb_blocks.specs.declared.block.Block.{Block}
 use Rattle.mmdb_blocks.specs.declared.kind.BlockKind.{BlockKind}
 use Rattle.mmdb_blocks.specs.declared.kind.BlockKind.TheVariants.{Ipv4, Ipv6}
+use Rattle.mmdb_blocks.specs.declared.list.BlocksError.{BlocksError}
+use Rattle.mmdb_blocks.specs.declared.list.BlocksError.TheVariants.{Write as ListWrite, OutOfOrder as ListOutOfOrder, Memory as ListMemory}
 use Rattle.mmdb_query.specs.Had.{Had}
 use Rattle.mmdb_query.specs.declared.error.QueryError.{QueryError}
 use Rattle.mmdb_query.specs.declared.error.QueryError.TheVariants.{Memory, Write, TooMany, OutOfOrder}
@@ -57,6 +59,12 @@ abbrev pub puts_listed : Unit {0} → List (List ℕ) → Had → Listing → Li
 puts_listed form s had old text new = PutsBits had.as_ipv4 had.bits old text new
 
 -- ---- what it leaves where it does not take one
+
+-- an error of a list, as a query answers it
+abbrev pub of_list : BlocksError → QueryError
+of_list (ListWrite e) = Write e
+of_list ListOutOfOrder = OutOfOrder
+of_list ListMemory = Memory
 
 -- a text begins with another one
 abbrev pub Begins : List ℕ → List ℕ → Type 0

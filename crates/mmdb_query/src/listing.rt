@@ -7,7 +7,7 @@ ghost use Rattle.mmdb_blocks.specs.Lists.{listing_of, no_networks, settled_text,
 ghost use Rattle.mmdb_blocks.specs.declared.syntax.Action.TheVariants.{Fill};
 ghost use Rattle.mmdb_query.specs.Ends.{Leaves, StopsBy};
 ghost use Rattle.mmdb_query.specs.Had.{network_bits};
-ghost use Rattle.mmdb_query.specs.Listings.{ipv4_part as spec_ipv4_part, kind_as as spec_kind_as, has_ipv4_part as spec_has_ipv4_part, blocks_of, Puts, PutsAll, PutsBits, Begins, LeavesOne, LeavesAll, LeavesBits, puts_listed, leaves_listed};
+ghost use Rattle.mmdb_query.specs.Listings.{ipv4_part as spec_ipv4_part, kind_as as spec_kind_as, has_ipv4_part as spec_has_ipv4_part, blocks_of, of_list as spec_of_list, Puts, PutsAll, PutsBits, Begins, LeavesOne, LeavesAll, LeavesBits, puts_listed, leaves_listed};
 ghost use Rattle.mmdb_query.specs.Parts.{ComesInPart};
 ghost use Rattle.mmdb_query.specs.Rows.{nothing};
 ghost use Rattle.mmdb_query.specs.Sets.{needs_nothing};
@@ -33,6 +33,19 @@ pub struct Listing<'a> {
     pub list: List<'a>,
 }
 
+// What a list answered, as a query does.
+#[cold]
+#[inline(never)]
+fn of_list(error: BlocksError) -> QueryError
+    ensures { result ≡ spec_of_list error }
+{
+    match error {
+        BlocksError::Write(error) => QueryError::Write(error),
+        BlocksError::OutOfOrder => QueryError::OutOfOrder,
+        BlocksError::Memory => QueryError::Memory,
+    }
+}
+
 // Writes the next block, if its kind is wanted.
 fn push<O: Write>(
     kind: BlockKind,
@@ -48,9 +61,7 @@ fn push<O: Write>(
 {
     match list.push(kind, block, out) {
         Ok(()) => Ok(()),
-        Err(BlocksError::Write(error)) => Err(QueryError::Write(error)),
-        Err(BlocksError::OutOfOrder) => Err(QueryError::OutOfOrder),
-        Err(BlocksError::Memory) => Err(QueryError::Memory),
+        Err(error) => Err(of_list(error)),
     }
 }
 
@@ -133,9 +144,7 @@ fn write_settled<O: Write>(list: &mut List<'_>, out: &mut O) -> Result<bool, Que
 {
     match list.write_settled(out) {
         Ok(()) => Ok(true),
-        Err(BlocksError::Write(error)) => Err(QueryError::Write(error)),
-        Err(BlocksError::OutOfOrder) => Err(QueryError::OutOfOrder),
-        Err(BlocksError::Memory) => Err(QueryError::Memory),
+        Err(error) => Err(of_list(error)),
     }
 }
 
@@ -162,11 +171,7 @@ fn take<O: Write>(
 
 impl<'a> Listing<'a> {
     /// A list without networks.
-    pub fn new(
-        alloc: Global,
-        syntax: Syntax<'a>,
-        kinds: Kinds,
-    ) -> Result<Listing<'a>, AllocError>
+    pub fn new(alloc: Global, syntax: Syntax<'a>, kinds: Kinds) -> Result<Listing<'a>, AllocError>
         ensures { IfOk result
             (λ listing. listing_of listing.list ≡ no_networks syntax.entry kinds Fill) }
     {
@@ -190,19 +195,16 @@ impl<'a> Listing<'a> {
             (LeavesBits (spec_is_ipv4 (ip_of network)) (network_bits network)
             (listing_of self.old.list)) (O.contents out.old) (O.contents out.new)) }
     {
-        let (is_ipv4, block) = (is_ipv4(network), Block::of_network(network));
-        if has_ipv4_part(is_ipv4, block) {
+        let is_v4 = is_ipv4(network);
+        let block = Block::of_network(network);
+        if has_ipv4_part(is_v4, block) {
             return Ok(false);
         }
-        take(kind_as(is_ipv4), block, &mut self.list, out)
+        take(kind_as(is_v4), block, &mut self.list, out)
     }
 
     // Takes the addresses of a network.
-    fn push_network<O: Write>(
-        &mut self,
-        network: IpNetwork,
-        out: &mut O,
-    ) -> Result<(), QueryError>
+    fn push_network<O: Write>(&mut self, network: IpNetwork, out: &mut O) -> Result<(), QueryError>
         ensures pushed { OnOk result (Prints (λ text.
             PutsBits (spec_is_ipv4 (ip_of network)) (network_bits network)
             (listing_of self.old.list) text (listing_of self.new.list))
@@ -211,7 +213,9 @@ impl<'a> Listing<'a> {
             (LeavesBits (spec_is_ipv4 (ip_of network)) (network_bits network)
             (listing_of self.old.list)) (O.contents out.old) (O.contents out.new)) }
     {
-        push_all(is_ipv4(network), Block::of_network(network), &mut self.list, out)
+        let is_v4 = is_ipv4(network);
+        let block = Block::of_network(network);
+        push_all(is_v4, block, &mut self.list, out)
     }
 }
 

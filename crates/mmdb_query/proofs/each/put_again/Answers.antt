@@ -1,4 +1,6 @@
+use Rattle.std.proofs.Common.{subst}
 use Rattle.mmdb_query.specs.Taking.{asks}
+use Rattle.mmdb_query.specs.Steps.{IsTried}
 use Rattle.mmdb_query.proofs.TakeLaws.{tried_reported}
 use Rattle.mmdb_query.proofs.each.put_again.Goals as goal
 
@@ -12,4 +14,5 @@ returns-in-Ok-Some-clause-put g c =
     let a = asked c.args.choice.now.conditions.now (g.S.Sink.form c.args.sink.now) s in
     let at = g.O.Write.contents c.put_chosen.new.out in
     let one = took c.put_chosen.new.sink in
-    tried_reported a had c.report_of.result c.in-Ok-Some.error (took c.args.sink.now) one (took c.report_of.new.sink) before at (g.O.Write.contents c.report_of.new.out) c.in-Ok-Some.ensures.tried c.report_of.ensures.took c.report_of.ensures.one c.report_of.ensures.failed c.report_of.ensures.out
+    let tried = subst (λ u. IsTried a had u (took c.args.sink.now) one before at) c.in-Ok-Some.field-0-is c.in-Ok-Some.ensures.tried in
+    tried_reported a had c.report_of.result c.in-Ok-Some.error (took c.args.sink.now) one (took c.report_of.new.sink) before at (g.O.Write.contents c.report_of.new.out) tried c.report_of.ensures.took c.report_of.ensures.one c.report_of.ensures.failed c.report_of.ensures.out
