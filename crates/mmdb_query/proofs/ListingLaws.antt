@@ -31,7 +31,7 @@ pub push_broken : (kind : BlockKind) (block : Block) (old : Listing) (before aft
 push_broken kind block old before after (lists.Write x) fails = tt
 push_broken kind block old before after lists.OutOfOrder (refused, written) = (changed_text old.page old.kind kind old.waiting, (refused, refl), written)
 push_broken kind block old before after lists.Memory (inl (part, rest, is, written)) = (part, inl (rest, is), written)
-push_broken kind block old before after lists.Memory (inr (text, new, pushes, part, rest, is, written)) = (part, inr (text, new, pushes, (rest, is)), written)
+push_broken kind block old before after lists.Memory (inr (text, new, pushes, (part, rest, is, written))) = (part, inr (text, new, pushes, (rest, is)), written)
 
 -- the settled blocks were not all written
 pub settled_fails : (text : List ℕ) (before after : Option (List ℕ)) (e : BlocksError) → BreaksOff text before after e → Leaves (λ part e. (e ≡ ends.Memory) × Begins part text) before after (of_list e)
