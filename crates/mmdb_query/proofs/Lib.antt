@@ -12,3 +12,4 @@ mod SegmentLaws
 mod AbreastLaws
 mod PartLaws
 mod RowLaws
+mod ListingLaws

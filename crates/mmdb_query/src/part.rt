@@ -18,8 +18,9 @@ use mmdb_reader::{IpNetwork, MaxMindDbError, PathElement};
 use mmdb_value::Value;
 use std::alloc::Global;
 
-// Whether a network is one of IPv4.
-fn is_ipv4(network: IpNetwork) -> bool
+/// Whether a network is one of IPv4.
+#[inline(always)]
+pub(crate) fn is_ipv4(network: IpNetwork) -> bool
     ensures { result ≡ spec_is_ipv4 (ip_of network) }
 {
     match network {
