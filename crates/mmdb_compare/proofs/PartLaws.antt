@@ -93,11 +93,11 @@ reached_unread before at New old new old_after new_after r met = record {
 }
 
 -- a leaf that comes after one network that both are at
-unread_first : (at : ℕ) (c : Coming) (s : Standing) → IsMet c s → coming_from at c ≡ c
+pub unread_first : (at : ℕ) (c : Coming) (s : Standing) → IsMet c s → coming_from at c ≡ c
 unread_first at c s met = rw met.met refl
 
 -- what comes after a network of which nothing is left
-done_left : (at : ℕ) (s : Standing) → IsDone s at → coming_from at (left_of s) ≡ coming_from at (behind_of s)
+pub done_left : (at : ℕ) (s : Standing) → IsDone s at → coming_from at (left_of s) ≡ coming_from at (behind_of s)
 done_left at s d = behind_is at s (rw d.stands d.ends)
 
 pub shared_unread : (at : ℕ) (side : Side) (old new old_after new_after : Standing) → IsDone old at → IsDone new at → IsMetOn side old new old_after new_after → IsNextUnread (comparing (Some at) old new) (comparing (Some at) old_after new_after) side

@@ -4,10 +4,11 @@ ghost use Rattle.mmdb_compare.specs.Listed.{all_of};
 ghost use Rattle.mmdb_compare.specs.Parts.{start_of};
 ghost use Rattle.mmdb_compare.specs.Found.{numbered_ip, AreFoundAt};
 ghost use Rattle.mmdb_compare.specs.Together.{IsNextOfAll, AreOver, AreBegun, offset_in};
+ghost use Rattle.mmdb_compare.specs.WalkList.{AreSameLeft};
 
 use crate::comparison::{behind, next_to};
 use crate::walk::UnreadLeaf;
-use crate::walk_list::{AskedDatabase, WalkList};
+use crate::walk_list::{AllAt, AskedDatabase, WalkList};
 use mmdb_blocks::Block;
 use mmdb_reader::{IpNetwork, LookupResult, MaxMindDbError};
 use std::alloc::{AllocError, Global};
@@ -40,15 +41,19 @@ pub struct Together<'a, S: AsSlice<u8> + Drop> {
     at: Option<u128>,
     /// The first address of the last stretch.
     shown_at: u128,
+    /// Whether all are at one network, of which nothing is left.
+    are_even: bool,
 }
 
 impl<'a, S: AsSlice<u8> + Drop> Model for Together<'a, S> {
     ghost use Rattle.mmdb_compare.specs.Together.{Abreast};
-    ghost use Rattle.mmdb_compare.specs.WalkList.{abreast};
+    ghost use Rattle.mmdb_compare.specs.WalkList.{abreast, AreAbreast};
 
     ghost Value = { Abreast };
 
     ghost view = { λ t. abreast t.at t.shown_at t.list.walks.items };
+
+    ghost invariant = { λ t. AreAbreast t.at t.are_even t.list.walks.items };
 }
 
 // Whether all databases are asked for networks of IPv4.
@@ -75,30 +80,71 @@ impl<'a, S: AsSlice<u8> + Drop> Together<'a, S> {
             is_ipv4: are_all_ipv4(databases),
             at: Some(0),
             shown_at: 0,
+            are_even: false,
         })
     }
 
+    // The next part, where all databases had the same network before it: mostly they have the same next one, which is found
+    // in fewer steps than any other part.
+    #[inline(always)]
+    fn next_shared(&mut self) -> Option<TogetherPart>
+        ensures next { MatchOption result (AreSameLeft self.entry.now self.exit.now)
+            (λ part. IsNextOfAll self.entry.now self.exit.now part) }
+        ensures databases { self.exit.now.databases ≡ self.entry.now.databases }
+    {
+        if !self.are_even {
+            return None;
+        }
+        self.are_even = false;
+        let at = self.at?;
+        if let Some(place) = self.list.go_on() {
+            return Some(TogetherPart::Unread(place));
+        }
+        let block = self.list.shared_behind(at)?;
+        self.at = behind(block);
+        self.shown_at = block.first;
+        self.are_even = true;
+        let is_ipv4 = self.is_ipv4 || self.list.shows_ipv4(block.first);
+        Some(TogetherPart::Stretch(TogetherStretch { block, is_ipv4 }))
+    }
+
+    // The next part, address by address.
+    #[inline(never)]
+    fn next_apart(&mut self) -> Option<TogetherPart>
+        ensures next { MatchOption result (AreOver self.entry.now self.exit.now)
+            (λ part. IsNextOfAll self.entry.now self.exit.now part) }
+        ensures databases { self.exit.now.databases ≡ self.entry.now.databases }
+    {
+        self.are_even = false;
+        while let Some(at) = self.at {
+            if let Some(place) = self.list.go_to(at) {
+                return Some(TogetherPart::Unread(place));
+            }
+            match self.list.at(at) {
+                AllAt::Passed(last) => self.at = next_to(last),
+                AllAt::Shown { block, are_even } => {
+                    self.at = behind(block);
+                    self.shown_at = at;
+                    self.are_even = are_even;
+                    let is_ipv4 = self.is_ipv4 || self.list.shows_ipv4(at);
+                    return Some(TogetherPart::Stretch(TogetherStretch { block, is_ipv4 }));
+                }
+            }
+        }
+        None
+    }
+
     /// The next part. A stretch begins where the one before ends, or later. None where all is handed out.
+    #[inline(always)]
     pub fn next_part(&mut self) -> Option<TogetherPart>
         ensures next { MatchOption result (AreOver self.entry.now self.exit.now)
             (λ part. IsNextOfAll self.entry.now self.exit.now part) }
         ensures databases { self.exit.now.databases ≡ self.entry.now.databases }
     {
-        while let Some(at) = self.at {
-            if let Some(place) = self.list.go_to(at) {
-                return Some(TogetherPart::Unread(place));
-            }
-            let here = self.list.at(at);
-            if here.is_shown() {
-                let block = Block::largest(at, here.last);
-                self.at = behind(block);
-                self.shown_at = at;
-                let is_ipv4 = self.is_ipv4 || self.list.shows_ipv4(at);
-                return Some(TogetherPart::Stretch(TogetherStretch { block, is_ipv4 }));
-            }
-            self.at = next_to(here.last);
+        match self.next_shared() {
+            Some(part) => Some(part),
+            None => self.next_apart(),
         }
-        None
     }
 
     /// The leaf that can't be read of the database at a place, where the last part names one.

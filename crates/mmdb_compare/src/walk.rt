@@ -285,6 +285,15 @@ impl<'a, S: AsSlice<u8> + Drop> Walk<'a, S> {
         self.first == other.first && self.prefix == other.prefix
     }
 
+    /// Whether it is at the network that is a block.
+    #[inline(always)]
+    pub(crate) fn is_at(&self, block: Block) -> bool
+        ensures { IsTrue result
+            ↔ ((self.now.stand ≡ Stand.AtNetwork) × (self.now.block ≡ block)) }
+    {
+        self.is_at_network() && self.first == block.first && self.prefix == block.prefix
+    }
+
     /// Whether it is at a network.
     #[inline(always)]
     pub(crate) fn is_at_network(&self) -> bool

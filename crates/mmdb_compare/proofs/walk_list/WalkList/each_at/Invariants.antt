@@ -1,6 +1,6 @@
 use Rattle.std.proofs.Common.{take}
 use Rattle.mmdb_compare.specs.WalkList.{AreHere}
-use Rattle.mmdb_compare.proofs.walk_list.WalkList.at.Given as goal
+use Rattle.mmdb_compare.proofs.walk_list.WalkList.each_at.Given as goal
 
 -- what the walks so far have
 abbrev pub invariant-loop-walk : goal.invariant-loop-walk
