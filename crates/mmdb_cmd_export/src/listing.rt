@@ -75,13 +75,7 @@ impl<'d> Listed<'_, 'd> {
             &mut *console.errors,
         );
         let mut reports = Reports::new(errors, self.several, asked)?;
-        let written = self.write_along(
-            console.alloc,
-            syntax,
-            &mut part,
-            console.out,
-            &mut reports,
-        );
+        let written = self.write_along(console.alloc, syntax, &mut part, console.out, &mut reports);
         reports.clear_progress();
         let faults = reports.count;
         drop(reports);

@@ -1,11 +1,11 @@
 -- Lists that are written while networks come.
-use Rattle.std.proofs.Common.{◌≡◌, ◌⊎◌, inl, inr, ℕ, Bool, true, false, List, [], ◌∷◌, ◌++◌, Option, Some, None, Result, Ok, Err, IfOk, IfErr, OnOk, if◌then◌else◌, refl, sym, ap, ◌∙◌, subst, append-nil}
+use Rattle.std.proofs.Common.{◌≡◌, inl, inr, ℕ, Bool, true, false, List, [], ◌∷◌, ◌++◌, Option, Some, None, Result, Ok, Err, IfOk, IfErr, OnOk, if◌then◌else◌, refl, sym, ap, ◌∙◌, subst, append-nil}
 use Rattle.std.specs.Io.KnownBytes.{Appends}
 use Rattle.std.proofs.KnownBytes.{Appends-nil, Appends-trans}
 use Rattle.std.specs.Net.Addr.{is_ipv4}
 use Rattle.mmdb_net.specs.Network.{ip_of}
 use Rattle.mmdb_net.specs.declared.network.IpNetwork.{IpNetwork}
-use Rattle.mmdb_blocks.specs.Lists.{Page, Listing, TakesBlock, IsTaken, Pushes, IsPushed, Prints, PushFails, BreaksOff, changed_text, settled_left, settled_page, settled_text, with_settled}
+use Rattle.mmdb_blocks.specs.Lists.{Page, Listing, TakesBlock, Pushes, IsPushed, Prints, PushFails, BreaksOff, changed_text, settled_left, settled_page, settled_text, with_settled}
 use Rattle.mmdb_blocks.specs.declared.block.Block.{Block}
 use Rattle.mmdb_blocks.specs.declared.kind.BlockKind.{BlockKind}
 use Rattle.mmdb_blocks.specs.declared.kind.BlockKind.TheVariants.{Ipv4, Ipv6}
@@ -14,7 +14,7 @@ use Rattle.mmdb_blocks.specs.declared.list.BlocksError.TheVariants as lists
 use Rattle.mmdb_query.specs.Ends.{Leaves}
 use Rattle.mmdb_query.specs.Had.{Had, IsNetworkOf, network_bits}
 use Rattle.mmdb_query.specs.Listings.{ipv4_part, kind_as, has_ipv4_part, blocks_of, HasBits, of_list, Puts, PutsAll, PutsBits, Begins, LeavesOne, LeavesAll, LeavesBits}
-use Rattle.mmdb_query.specs.Taking.{IsDone, IsDoneOrNot}
+use Rattle.mmdb_query.specs.Taking.{IsDoneOrNot}
 use Rattle.mmdb_query.specs.declared.error.QueryError.{QueryError}
 use Rattle.mmdb_query.specs.declared.error.QueryError.TheVariants as ends
 

@@ -11,7 +11,7 @@ use Rattle.mmdb_query.specs.Walks.{Item, Goes, IsStep}
 use Rattle.mmdb_query.specs.Walks.Item.{Found, Unread}
 use Rattle.mmdb_query.specs.Taking.{Asked, IsPicked, ArePicked, Runs, Takes, IsDone, IsDoneOrNot}
 use Rattle.mmdb_query.specs.Steps.{is_memory, IsTried, IsPut, TakesItem, TakesKnown, TakesStep, StopsStep, PutsStep, FitsOf, UnderWay}
-use Rattle.mmdb_query.specs.Ends.{IsOfOutput, WritesNone, Leaves, left_of, Begins, BreaksOff, TooManyCome, StopsBy, EndsBy}
+use Rattle.mmdb_query.specs.Ends.{IsOfOutput, WritesNone, Leaves, left_of, BreaksOff, TooManyCome, StopsBy, EndsBy}
 use Rattle.mmdb_query.specs.declared.error.QueryError.{QueryError}
 use Rattle.mmdb_query.specs.declared.error.QueryError.TheVariants as ends
 use Rattle.mmdb_query.proofs.WalkLaws.{goes_none, goes_on}

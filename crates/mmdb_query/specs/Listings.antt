@@ -1,5 +1,5 @@
 -- Lists of the networks that are chosen, written while they come.
-use Rattle.std.specs.Prelude.{◌≡◌, ◌⊎◌, ◌^◌, ℕ, Bool, true, false, List, [], ◌∷◌, ◌++◌, Option, Some, take, max, not, ◌&&◌, nat_lt, if◌then◌else◌}
+use Rattle.std.specs.Prelude.{◌≡◌, ◌⊎◌, ◌^◌, ℕ, Bool, List, [], ◌∷◌, ◌++◌, Some, take, max, not, ◌&&◌, nat_lt, if◌then◌else◌}
 use Rattle.mmdb_net.specs.Bits.{bits_of}
 use Rattle.mmdb_blocks.specs.Blocks.{IsBlock}
 use Rattle.mmdb_blocks.specs.Kinds.{IsWanted}

@@ -1,4 +1,4 @@
-use Rattle.std.proofs.Common.{◌≡◌, sym, subst}
+use Rattle.std.proofs.Common.{sym, subst}
 use Rattle.mmdb_format.specs.Error.{MemoryApart}
 use Rattle.mmdb_query.specs.Taking.{asks, CantBePut}
 use Rattle.mmdb_query.specs.Steps.{IsTried, IsPut}
