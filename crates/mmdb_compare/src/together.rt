@@ -1,12 +1,13 @@
 //! Any number of databases side by side.
-ghost use Rattle.std.specs.Prelude.{MatchOption, IfOk, ◌≡◌, map, length};
+ghost use Rattle.std.specs.Prelude.{MatchOption, IfOk, ◌≡◌, ◌+◌, ◌<◌, map, length, get_or};
+ghost use Rattle.mmdb_blocks.specs.Blocks.{IsBlock, end};
+ghost use Rattle.mmdb_reader.specs.File.{Database};
 ghost use Rattle.mmdb_compare.specs.Listed.{all_of};
 ghost use Rattle.mmdb_compare.specs.Parts.{start_of};
-ghost use Rattle.mmdb_compare.specs.Found.{numbered_ip, AreFoundAt};
+ghost use Rattle.mmdb_compare.specs.Found.{numbered_ip, IsFoundAt, AreFoundAt};
 ghost use Rattle.mmdb_compare.specs.Together.{IsNextOfAll, AreOver, AreBegun, offset_in};
 ghost use Rattle.mmdb_compare.specs.WalkList.{AreSameLeft};
 
-use crate::comparison::{behind, next_to};
 use crate::walk::UnreadLeaf;
 use crate::walk_list::{AllAt, AskedDatabase, WalkList};
 use mmdb_blocks::Block;
@@ -54,6 +55,23 @@ impl<'a, S: AsSlice<u8> + Drop> Model for Together<'a, S> {
     ghost view = { λ t. abreast t.at t.shown_at t.list.walks.items };
 
     ghost invariant = { λ t. AreAbreast t.at t.are_even t.list.walks.items };
+}
+
+// The address after another one, if there is one.
+#[inline(always)]
+fn next_to(last: u128) -> Option<u128>
+    ensures { start_of result ≡ last + 1 }
+{
+    last.checked_add(1)
+}
+
+// The address after a block, if there is one.
+#[inline(always)]
+fn behind(block: Block) -> Option<u128>
+    requires { IsBlock block }
+    ensures { start_of result ≡ end block }
+{
+    next_to(block.last())
 }
 
 // Whether all databases are asked for networks of IPv4.
@@ -183,5 +201,13 @@ impl<'a, S: AsSlice<u8> + Drop> Together<'a, S> {
             (λ all. AreFoundAt address self.now.databases self.now.answers all.items) }
     {
         self.list.found(alloc, self.shown_at, stretch.block.first)
+    }
+
+    /// What the database at a place has for the first address of a stretch: what a lookup of that finds.
+    pub fn found(&self, place: usize, stretch: TogetherStretch) -> Option<LookupResult<'a, S>>
+        ensures { (db : Database) → place < length self.now.databases → IsFoundAt
+            (get_or self.now.databases place db) (numbered_ip stretch.block.first) result }
+    {
+        self.list.found_in(place, stretch.block.first)
     }
 }

@@ -277,14 +277,6 @@ impl<'a, S: AsSlice<u8> + Drop> Walk<'a, S> {
         self.is_at_network() && self.first <= at
     }
 
-    /// Whether the network that it is at has the addresses of another walk's.
-    #[inline(always)]
-    pub(crate) fn has_same_addresses(&self, other: &Walk<'_, S>) -> bool
-        ensures { IsTrue result ↔ (self.now.block ≡ other.now.block) }
-    {
-        self.first == other.first && self.prefix == other.prefix
-    }
-
     /// Whether it is at the network that is a block.
     #[inline(always)]
     pub(crate) fn is_at(&self, block: Block) -> bool

@@ -1,11 +1,12 @@
 //! The walks of any number of databases side by side.
-ghost use Rattle.std.specs.Prelude.{◌≡◌, ◌≤◌, ◌&&◌, ◌||◌, ℕ, true, min, map, length, MatchOption, IfOk};
+ghost use Rattle.std.specs.Prelude.{◌≡◌, ◌≤◌, ◌<◌, ◌&&◌, ◌||◌, ℕ, true, min, map, length, get_or, MatchOption, IfOk};
 ghost use Rattle.std.specs.List.{All};
 ghost use Rattle.mmdb_blocks.specs.Blocks.{IsBlock};
+ghost use Rattle.mmdb_reader.specs.File.{Database};
 ghost use Rattle.mmdb_compare.specs.Listed.{all_of};
 ghost use Rattle.mmdb_compare.specs.Walks.{left_of, IsFrom, last_here, is_record_here};
 ghost use Rattle.mmdb_compare.specs.Together.{offset_in};
-ghost use Rattle.mmdb_compare.specs.Found.{numbered_ip, AreFoundAt};
+ghost use Rattle.mmdb_compare.specs.Found.{numbered_ip, IsFoundAt, AreFoundAt};
 ghost use Rattle.mmdb_compare.specs.WalkList.{databases_of, AllGone, AllPassed, IsMetOf, AreHere, AreAt, AreNarrowest, AreShared, AreDone, is_known_here, held_at};
 
 use crate::walk::{Here, UnreadLeaf, Walk};
@@ -296,6 +297,19 @@ impl<'a, S: AsSlice<u8> + Drop> WalkList<'a, S> {
             all.push(walk.found_from(at, address))?;
         }
         Ok(all)
+    }
+
+    /// What the one at a place has for an address.
+    pub(crate) fn found_in(&self, place: usize, address: u128) -> Option<LookupResult<'a, S>>
+        ensures { (db : Database) → place < length self.now.walks.items
+            → IsFoundAt (get_or (databases_of self.now.walks.items) place db)
+            (numbered_ip address) result }
+    {
+        if place >= self.walks.len() {
+            return None;
+        }
+        let walk = &self.walks[place];
+        walk.found_at(address)
     }
 
     /// The last leaf that can't be read of the database at a place.
