@@ -1,6 +1,6 @@
 //! What differs, written as the fewest networks: neighbours with the same two values are joined.
 use crate::counts::{ABSENT, ChangeCounts, Presence};
-use crate::differences::{FoundInBoth, Pairs, put_difference};
+use crate::differences::{FoundInBoth, PairOfNetwork, Pairs, put_difference};
 use mmdb_blocks::{Block, BlockKind, Joiner};
 use mmdb_compare::{ShownPair, TogetherStretch};
 use mmdb_console::ProgramError;
@@ -125,8 +125,10 @@ impl<'a, 'r> Changes<'a, 'r> {
                 self.alloc,
                 self.layout,
                 network,
-                run.answers(),
-                &run.shown,
+                PairOfNetwork {
+                    answers: run.answers(),
+                    shown: &run.shown,
+                },
                 &mut self.line,
                 out,
             ),
