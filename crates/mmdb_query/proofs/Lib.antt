@@ -13,3 +13,4 @@ mod AbreastLaws
 mod PartLaws
 mod RowLaws
 mod ListingLaws
+mod WholeLaws

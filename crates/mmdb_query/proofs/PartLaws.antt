@@ -218,7 +218,7 @@ answers_stay kinds range items address offsets inside = (from_parts kinds range 
 
 -- ---- all that comes
 
-all_parts : (items : List Item) → parts_of Both None items ≡ items
+pub all_parts : (items : List Item) → parts_of Both None items ≡ items
 all_parts [] = refl
 all_parts (Unread ∷ items) = ap (λ rest. Unread ∷ rest) (all_parts items)
 all_parts (Found had ∷ items) = ap (λ rest. Found had ∷ rest) (all_parts items)

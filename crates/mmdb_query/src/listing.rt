@@ -284,5 +284,8 @@ pub fn list_part<W: Walk + Drop, C: Conditions, O: Write, F: Faults>(
         (W.sections part.old.walk)) part.old (listing_of listing.old.list)
         (O.contents out.old) (O.contents out.new)) }
 {
+    if let (Kinds::Both, None) = (part.kinds, part.range) {
+        return put_each(alloc, &mut part.walk, conditions, listing, out, faults);
+    }
     put_each(alloc, part, conditions, listing, out, faults)
 }
