@@ -183,8 +183,33 @@ pub network_pushed : {E : Type 0} (as_ipv4 : Bool) (block : Block) (bits : List 
 network_pushed as_ipv4 block bits (Ok x) old new before after has (text, puts, written) = (text, (block, has, puts), written)
 network_pushed as_ipv4 block bits (Err e) old new before after has h = tt
 
--- ---- what databases have in it
+-- ---- a network by its block, whichever bits that has
+
+pub all_taken : {E : Type 0} (as_ipv4 : Bool) (kind : BlockKind) (block : Block) (r : Result Bool E) (old new : Listing) (before after : Option (List ℕ)) → false ≡ has_ipv4_part as_ipv4 block
+    → kind ≡ kind_as as_ipv4 → IfOk r (λ done. IsDoneOrNot (Puts (kind, block)) done old new before after)
+    → IfOk r (λ done. (bits : List Bool) → HasBits block bits → IsDoneOrNot (PutsBits as_ipv4 bits) done old new before after)
+all_taken as_ipv4 kind block (Ok done) old new before after is same h = λ bits has. network_taken {E = Unit {0}} as_ipv4 kind block bits (Ok done) old new before after is same has h
+all_taken as_ipv4 kind block (Err e) old new before after is same h = tt
+
+pub all_broken : {T : Type 0} (as_ipv4 : Bool) (block : Block) (r : Result T QueryError) (old : Listing) (before after : Option (List ℕ))
+    → IfErr r (Leaves (LeavesAll (blocks_of as_ipv4 block) old) before after)
+    → IfErr r (λ e. (bits : List Bool) → HasBits block bits → Leaves (LeavesBits as_ipv4 bits old) before after e)
+all_broken as_ipv4 block (Ok x) old before after left = tt
+all_broken as_ipv4 block (Err e) old before after left = λ bits has. bits_left as_ipv4 block bits e old before after has left
+
+pub all_pushed : {E : Type 0} (as_ipv4 : Bool) (block : Block) (r : Result (Unit {0}) E) (old new : Listing) (before after : Option (List ℕ))
+    → OnOk r (Prints (λ text. PutsAll (blocks_of as_ipv4 block) old text new) before after)
+    → OnOk r ((bits : List Bool) → HasBits block bits → Prints (λ text. PutsBits as_ipv4 bits old text new) before after)
+all_pushed as_ipv4 block (Ok x) old new before after (text, puts, written) = λ bits has. (text, (block, has, puts), written)
+all_pushed as_ipv4 block (Err e) old new before after h = tt
 
 -- the same of all that has the network's bits and kind
-pub of_had : (P : Bool → List Bool → Type 0) (had : Had) (network : IpNetwork) → IsNetworkOf had network → P (is_ipv4 (ip_of network)) (network_bits network) → P had.as_ipv4 had.bits
-of_had P had network is p = subst (λ bits. P had.as_ipv4 bits) is.bits (subst (λ k. P k (network_bits network)) is.kind p)
+pub ok_of_had : {T E : Type 0} (r : Result T E) (P : Bool → List Bool → T → Type 0) (block : Block) (as_ipv4 kind : Bool) (bits : List Bool) → as_ipv4 ≡ kind → HasBits block bits
+    → IfOk r (λ x. (b : List Bool) → HasBits block b → P as_ipv4 b x) → IfOk r (P kind bits)
+ok_of_had (Ok x) P block as_ipv4 kind bits same has h = subst (λ k. P k bits x) same (h bits has)
+ok_of_had (Err e) P block as_ipv4 kind bits same has h = tt
+
+pub err_of_had : {T E : Type 0} (r : Result T E) (P : Bool → List Bool → E → Type 0) (block : Block) (as_ipv4 kind : Bool) (bits : List Bool) → as_ipv4 ≡ kind → HasBits block bits
+    → IfErr r (λ e. (b : List Bool) → HasBits block b → P as_ipv4 b e) → IfErr r (P kind bits)
+err_of_had (Ok x) P block as_ipv4 kind bits same has h = tt
+err_of_had (Err e) P block as_ipv4 kind bits same has h = subst (λ k. P k bits e) same (h bits has)

@@ -23,7 +23,7 @@ mod walk;
 
 pub use address_blocks::{AddressBlocks, blocks, list_all};
 pub use addresses::{Addresses, gather, gather_all, gather_part};
-pub use answer::Answer;
+pub use answer::{Answer, NetworkBlock};
 pub use choice::{Choice, Conditions};
 pub use each::put_each;
 pub use error::{Fault, Faults, QueryError};

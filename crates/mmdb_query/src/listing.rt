@@ -1,29 +1,26 @@
 //! Lists of the addresses of chosen networks, written while those come.
 ghost use Rattle.std.specs.Prelude.{◌≡◌, ◌∷◌, [], true, IfOk, IfErr, OnOk};
 ghost use Rattle.std.specs.Io.KnownBytes.{Appends};
-ghost use Rattle.std.specs.Net.Addr.{is_ipv4 as spec_is_ipv4};
-ghost use Rattle.mmdb_net.specs.Network.{ip_of};
 ghost use Rattle.mmdb_blocks.specs.Lists.{listing_of, no_networks, settled_text, with_settled, Prints};
 ghost use Rattle.mmdb_blocks.specs.declared.syntax.Action.TheVariants.{Fill};
 ghost use Rattle.mmdb_query.specs.Ends.{Leaves, StopsBy};
-ghost use Rattle.mmdb_query.specs.Had.{network_bits};
-ghost use Rattle.mmdb_query.specs.Listings.{ipv4_part as spec_ipv4_part, kind_as as spec_kind_as, has_ipv4_part as spec_has_ipv4_part, blocks_of, of_list as spec_of_list, Puts, PutsAll, PutsBits, Begins, LeavesOne, LeavesAll, LeavesBits, puts_listed, leaves_listed};
+ghost use Rattle.mmdb_query.specs.Listings.{ipv4_part as spec_ipv4_part, kind_as as spec_kind_as, has_ipv4_part as spec_has_ipv4_part, HasBits, blocks_of, of_list as spec_of_list, Puts, PutsAll, PutsBits, Begins, LeavesOne, LeavesAll, LeavesBits, puts_listed, leaves_listed};
 ghost use Rattle.mmdb_query.specs.Parts.{ComesInPart};
 ghost use Rattle.mmdb_query.specs.Rows.{nothing};
 ghost use Rattle.mmdb_query.specs.Sets.{needs_nothing};
 ghost use Rattle.mmdb_query.specs.Taking.{asks, Takes, IsDoneOrNot};
 ghost use Rattle.mmdb_query.specs.declared.error.QueryError.TheVariants.{Memory};
 
-use crate::answer::Answer;
+use crate::answer::{Answer, NetworkBlock};
 use crate::choice::Conditions;
 use crate::each::put_each;
 use crate::error::{Faults, QueryError};
-use crate::part::{Part, is_ipv4};
+use crate::part::Part;
 use crate::sink::Sink;
 use crate::walk::Walk;
 use mmdb_blocks::laws::taken_is_pushed;
 use mmdb_blocks::{Block, BlockKind, BlocksError, Kinds, List, Syntax, Taken};
-use mmdb_reader::{IpNetwork, MaxMindDbError};
+use mmdb_reader::MaxMindDbError;
 use std::alloc::{AllocError, Global};
 use std::io::Write;
 
@@ -182,40 +179,31 @@ impl<'a> Listing<'a> {
 
     // Takes the addresses of a network at once, where all that this needs is at hand, as for most.
     #[inline(always)]
-    fn take_network<O: Write>(
-        &mut self,
-        network: IpNetwork,
-        out: &mut O,
-    ) -> Result<bool, QueryError>
-        ensures taken { IfOk result (λ is_done. IsDoneOrNot
-            (PutsBits (spec_is_ipv4 (ip_of network)) (network_bits network)) is_done
+    fn take_network<O: Write>(&mut self, at: NetworkBlock, out: &mut O) -> Result<bool, QueryError>
+        ensures taken { IfOk result (λ is_done. (bits : _) → HasBits at.block bits
+            → IsDoneOrNot (PutsBits at.is_ipv4 bits) is_done
             (listing_of self.old.list) (listing_of self.new.list)
             (O.contents out.old) (O.contents out.new)) }
-        ensures failed { IfErr result (Leaves
-            (LeavesBits (spec_is_ipv4 (ip_of network)) (network_bits network)
-            (listing_of self.old.list)) (O.contents out.old) (O.contents out.new)) }
+        ensures failed { IfErr result (λ e. (bits : _) → HasBits at.block bits
+            → Leaves (LeavesBits at.is_ipv4 bits (listing_of self.old.list))
+            (O.contents out.old) (O.contents out.new) e) }
     {
-        let is_v4 = is_ipv4(network);
-        let block = Block::of_network(network);
-        if has_ipv4_part(is_v4, block) {
+        if has_ipv4_part(at.is_ipv4, at.block) {
             return Ok(false);
         }
-        take(kind_as(is_v4), block, &mut self.list, out)
+        take(kind_as(at.is_ipv4), at.block, &mut self.list, out)
     }
 
     // Takes the addresses of a network.
-    fn push_network<O: Write>(&mut self, network: IpNetwork, out: &mut O) -> Result<(), QueryError>
-        ensures pushed { OnOk result (Prints (λ text.
-            PutsBits (spec_is_ipv4 (ip_of network)) (network_bits network)
-            (listing_of self.old.list) text (listing_of self.new.list))
-            (O.contents out.old) (O.contents out.new)) }
-        ensures failed { IfErr result (Leaves
-            (LeavesBits (spec_is_ipv4 (ip_of network)) (network_bits network)
-            (listing_of self.old.list)) (O.contents out.old) (O.contents out.new)) }
+    fn push_network<O: Write>(&mut self, at: NetworkBlock, out: &mut O) -> Result<(), QueryError>
+        ensures pushed { OnOk result ((bits : _) → HasBits at.block bits
+            → Prints (λ text. PutsBits at.is_ipv4 bits (listing_of self.old.list) text
+            (listing_of self.new.list)) (O.contents out.old) (O.contents out.new)) }
+        ensures failed { IfErr result (λ e. (bits : _) → HasBits at.block bits
+            → Leaves (LeavesBits at.is_ipv4 bits (listing_of self.old.list))
+            (O.contents out.old) (O.contents out.new) e) }
     {
-        let is_v4 = is_ipv4(network);
-        let block = Block::of_network(network);
-        push_all(is_v4, block, &mut self.list, out)
+        push_all(at.is_ipv4, at.block, &mut self.list, out)
     }
 }
 
@@ -244,7 +232,7 @@ impl<'a> Sink for Listing<'a> {
         answer: &A,
         out: &mut O,
     ) -> Result<bool, QueryError> {
-        self.take_network(answer.network(), out)
+        self.take_network(answer.block(), out)
     }
 
     #[inline(never)]
@@ -253,7 +241,7 @@ impl<'a> Sink for Listing<'a> {
         answer: &A,
         out: &mut O,
     ) -> Result<Option<MaxMindDbError>, QueryError> {
-        match self.push_network(answer.network(), out) {
+        match self.push_network(answer.block(), out) {
             Ok(()) => Ok(None),
             Err(error) => Err(error),
         }

@@ -10,7 +10,7 @@ ghost use Rattle.mmdb_blocks.specs.Blocks.{IsBlock};
 ghost use Rattle.mmdb_query.specs.Had.{Had, IsNetworkOf, network_bits};
 ghost use Rattle.mmdb_query.specs.Parts.{is_wanted as spec_is_wanted, clipped};
 
-use crate::answer::Answer;
+use crate::answer::{Answer, NetworkBlock, block_of};
 use crate::segment::network_of_block;
 use crate::walk::{UnreadLeaf, Walk};
 use mmdb_blocks::{Block, BlockKind, Kinds};
@@ -106,6 +106,11 @@ impl<A: Answer> Answer for Clipped<A> {
     #[inline(always)]
     fn network(&self) -> IpNetwork {
         self.network
+    }
+
+    #[inline(always)]
+    fn block(&self) -> NetworkBlock {
+        block_of(self.network)
     }
 
     #[inline(always)]
