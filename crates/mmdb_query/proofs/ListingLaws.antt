@@ -2,9 +2,6 @@
 use Rattle.std.proofs.Common.{◌≡◌, inl, inr, ℕ, Bool, true, false, List, [], ◌∷◌, ◌++◌, Option, Some, None, Result, Ok, Err, IfOk, IfErr, OnOk, if◌then◌else◌, refl, sym, ap, ◌∙◌, subst, append-nil}
 use Rattle.std.specs.Io.KnownBytes.{Appends}
 use Rattle.std.proofs.KnownBytes.{Appends-nil, Appends-trans}
-use Rattle.std.specs.Net.Addr.{is_ipv4}
-use Rattle.mmdb_net.specs.Network.{ip_of}
-use Rattle.mmdb_net.specs.declared.network.IpNetwork.{IpNetwork}
 use Rattle.mmdb_blocks.specs.Lists.{Page, Listing, TakesBlock, Pushes, IsPushed, Prints, PushFails, BreaksOff, changed_text, settled_left, settled_page, settled_text, with_settled}
 use Rattle.mmdb_blocks.specs.declared.block.Block.{Block}
 use Rattle.mmdb_blocks.specs.declared.kind.BlockKind.{BlockKind}
@@ -12,7 +9,6 @@ use Rattle.mmdb_blocks.specs.declared.kind.BlockKind.TheVariants.{Ipv4, Ipv6}
 use Rattle.mmdb_blocks.specs.declared.list.BlocksError.{BlocksError}
 use Rattle.mmdb_blocks.specs.declared.list.BlocksError.TheVariants as lists
 use Rattle.mmdb_query.specs.Ends.{Leaves}
-use Rattle.mmdb_query.specs.Had.{Had, IsNetworkOf, network_bits}
 use Rattle.mmdb_query.specs.Listings.{ipv4_part, kind_as, has_ipv4_part, blocks_of, HasBits, of_list, Puts, PutsAll, PutsBits, Begins, LeavesOne, LeavesAll, LeavesBits}
 use Rattle.mmdb_query.specs.Taking.{IsDoneOrNot}
 use Rattle.mmdb_query.specs.declared.error.QueryError.{QueryError}
@@ -172,16 +168,6 @@ bits_left as_ipv4 block bits ends.Memory old before after has (part, left, writt
 bits_left as_ipv4 block bits (ends.Write x) old before after has left = tt
 bits_left as_ipv4 block bits ends.TooMany old before after has left = left
 bits_left as_ipv4 block bits ends.OutOfOrder old before after has (part, left, written) = (part, (block, has, left), written)
-
-pub network_broken : {T : Type 0} (as_ipv4 : Bool) (block : Block) (bits : List Bool) (r : Result T QueryError) (old : Listing) (before after : Option (List ℕ)) → HasBits block bits
-    → IfErr r (Leaves (LeavesAll (blocks_of as_ipv4 block) old) before after) → IfErr r (Leaves (LeavesBits as_ipv4 bits old) before after)
-network_broken as_ipv4 block bits (Ok x) old before after has left = tt
-network_broken as_ipv4 block bits (Err e) old before after has left = bits_left as_ipv4 block bits e old before after has left
-
-pub network_pushed : {E : Type 0} (as_ipv4 : Bool) (block : Block) (bits : List Bool) (r : Result (Unit {0}) E) (old new : Listing) (before after : Option (List ℕ)) → HasBits block bits
-    → OnOk r (Prints (λ text. PutsAll (blocks_of as_ipv4 block) old text new) before after) → OnOk r (Prints (λ text. PutsBits as_ipv4 bits old text new) before after)
-network_pushed as_ipv4 block bits (Ok x) old new before after has (text, puts, written) = (text, (block, has, puts), written)
-network_pushed as_ipv4 block bits (Err e) old new before after has h = tt
 
 -- ---- a network by its block, whichever bits that has
 

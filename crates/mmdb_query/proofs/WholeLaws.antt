@@ -3,7 +3,7 @@ use Rattle.std.proofs.Common.{◌≡◌, inl, inr, List, [], ◌∷◌, ◌++◌
 use Rattle.mmdb_net.specs.declared.network.IpNetwork.{IpNetwork}
 use Rattle.mmdb_blocks.specs.declared.kind.Kinds.{Kinds}
 use Rattle.mmdb_blocks.specs.declared.kind.Kinds.TheVariants.{Both}
-use Rattle.mmdb_query.specs.Ends.{IsLeft, BreaksOff, TooManyCome, StopsBy}
+use Rattle.mmdb_query.specs.Ends.{IsLeft, BreaksOff, StopsBy}
 use Rattle.mmdb_query.specs.Parts.{ComesInPart}
 use Rattle.mmdb_query.specs.Taking.{Asked, Takes}
 use Rattle.mmdb_query.specs.Walks.{Item, Goes}
