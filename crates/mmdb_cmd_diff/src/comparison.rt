@@ -2,6 +2,7 @@
 use crate::changes::{Changes, kind_of, network_of};
 use crate::counts::{ChangeCounts, Presence};
 use crate::differences::{FoundInBoth, Pairs, UnreadableValue, put_names};
+use crate::same::are_all_readable;
 use crate::two_databases::{TwoDatabases, open_two};
 use mmdb_arguments::{DiffArguments, NoRequest};
 use mmdb_blocks::{BlockKind, Kinds};
@@ -602,19 +603,6 @@ fn report_none<O: Write, E: Pace>(
     report_counts(ChangeCounts::new(), 0, task.exit_code, console)
 }
 
-// Whether both databases can be walked in a range. The first that can't is reported.
-fn can_both_be_walked<O: Write, E: Pace>(
-    databases: &TwoDatabases,
-    range: IpNetwork,
-    task: &DiffTask<'_>,
-    console: &mut Console<'_, O, E>,
-) -> Result<bool, ProgramError> {
-    Ok(
-        can_be_walked(databases.old(), task.old, Some(range), console)?
-            && can_be_walked(databases.newer(), task.new, Some(range), console)?,
-    )
-}
-
 // Compares two databases, and answers the status.
 fn diff_databases<'a, O: Write, E: Pace>(
     databases: &TwoDatabases,
@@ -626,12 +614,15 @@ fn diff_databases<'a, O: Write, E: Pace>(
         Some(range) => range,
         None => all_of(databases.old(), databases.newer(), task.kinds)?,
     };
-    let are_same = task.range.is_none() && databases.are_same_and_readable(console.alloc);
-    if !are_same && !can_both_be_walked(databases, range, task, console)? {
+    if !can_be_walked(databases.old(), task.old, Some(range), console)?
+        || !can_be_walked(databases.newer(), task.new, Some(range), console)?
+    {
         return Ok(FAILED);
     }
     note_absent(task, databases, range, console)?;
-    if are_same {
+    if databases.have_same_bytes()
+        && are_all_readable(console.alloc, databases.old(), range, &task.layout)
+    {
         return report_none(task, console);
     }
     compare_range(databases, range, task, console)

@@ -5,6 +5,7 @@ mod changes;
 mod comparison;
 mod counts;
 mod differences;
+mod same;
 mod texts;
 mod two_databases;
 

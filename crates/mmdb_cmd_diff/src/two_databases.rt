@@ -2,7 +2,6 @@
 use mmdb_console::{Console, opened, path_elsewhere};
 use mmdb_layout::{Database, open_database, path_or};
 use mmdb_reader::{MaxMindDbError, Reader};
-use std::alloc::Global;
 use std::env::Env;
 use std::io::Write;
 use std::rt::Files;
@@ -27,10 +26,9 @@ impl TwoDatabases {
         }
     }
 
-    /// Whether both files have the same bytes, all of whose records are seen to be readable, so that nothing differs. Where memory
-    /// is out it is not seen.
-    pub(crate) fn are_same_and_readable(&self, alloc: Global) -> bool {
-        self.other.is_none() && self.old.verify_records(alloc).is_ok()
+    /// Whether both files have the same bytes.
+    pub(crate) fn have_same_bytes(&self) -> bool {
+        self.other.is_none()
     }
 }
 

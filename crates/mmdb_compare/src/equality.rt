@@ -43,6 +43,9 @@ pub(crate) struct KnownMap {
 pub struct SideBySide<'r> {
     in_old: &'r [u8],
     in_new: &'r [u8],
+    /// Whether both are one: then what was read in the old one is not read again.
+    are_one: bool,
+    ghost one: { are_one ≡ true → in_new.now ≡ in_old.now },
     known: CacheTable<Offsets, KnownMap, SETS_OF_MAPS>,
 }
 
@@ -75,15 +78,60 @@ impl<'r> SideBySide<'r> {
         Ok(SideBySide {
             in_old: old,
             in_new: new,
+            are_one: false,
             known: CacheTable::new(alloc, NO_PAIRS)?,
         })
     }
 
+    /// One data section beside itself: what is equal to itself can be read. An `Err` is of memory.
+    pub fn of_one(alloc: Global, section: &'r [u8]) -> Result<SideBySide<'r>, AllocError>
+        ensures { IfOk result
+            (λ both. both ≡ record { in_old = section.now; in_new = section.now }) }
+    {
+        Ok(SideBySide {
+            in_old: section,
+            in_new: section,
+            are_one: true,
+            known: CacheTable::new(alloc, NO_PAIRS)?,
+        })
+    }
+
+    // The key in the new section, where the old one has this one.
+    #[inline(always)]
+    fn key_in_new(
+        &self,
+        place: PairPosition,
+        old: &'r [u8],
+        behind: usize,
+    ) -> Option<(&'r [u8], usize)>
+        requires { spec_key_bytes_at self.now.in_old place.in_old ≡ Some (old.now, behind) }
+        ensures { IfSome result
+            (λ k. spec_key_bytes_at self.now.in_new place.in_new ≡ Some (k.0.now, k.1)) }
+    {
+        if self.are_one && place.in_new == place.in_old {
+            return Some((old, behind));
+        }
+        key_bytes_at(self.in_new, place.in_new).ok()
+    }
+
+    // The header in the new section, where the old one has this one.
+    #[inline(always)]
+    fn header_in_new(&self, place: PairPosition, old: Direct) -> Option<Direct>
+        requires { spec_direct_at self.now.in_old place.in_old 0 ≡ Some old }
+        ensures { IfSome result
+            (λ new. spec_direct_at self.now.in_new place.in_new 0 ≡ Some new) }
+    {
+        if self.are_one && place.in_new == place.in_old {
+            return Some(old);
+        }
+        direct_at(self.in_new, place.in_new, 0).ok()
+    }
+
     // The content after two headers, where it is the same, and text.
     #[inline(always)]
-    fn content_in_both(&self, old: Direct, new: Direct) -> Option<Content<'r>>
-        requires old { (at : ℕ) × (spec_direct_at self.now.in_old at 0 ≡ Some old) }
-        requires new { (at : ℕ) × (spec_direct_at self.now.in_new at 0 ≡ Some new) }
+    fn content_in_both(&self, place: PairPosition, old: Direct, new: Direct) -> Option<Content<'r>>
+        requires old { spec_direct_at self.now.in_old place.in_old 0 ≡ Some old }
+        requires new { spec_direct_at self.now.in_new place.in_new 0 ≡ Some new }
         ensures in_old { IfSome result (λ content.
             spec_content_at self.now.in_old old.header ≡ Some (content_view content)) }
         ensures in_new { IfSome result (λ content.
@@ -93,6 +141,9 @@ impl<'r> SideBySide<'r> {
             × (spec_content_end new.header < 2 ^ 64) }
     {
         let in_old = content_at(self.in_old, old.header).ok()?;
+        if self.are_one && place.in_new == place.in_old {
+            return if is_text(in_old) { Some(in_old) } else { None };
+        }
         let in_new = content_at(self.in_new, new.header).ok()?;
         if is_text(in_old) && are_same(in_old, in_new) {
             return Some(in_old);
@@ -108,7 +159,7 @@ impl<'r> SideBySide<'r> {
         let Ok((old, behind_old)) = key_bytes_at(self.in_old, place.in_old) else {
             return false;
         };
-        let Ok((new, behind_new)) = key_bytes_at(self.in_new, place.in_new) else {
+        let Some((new, behind_new)) = self.key_in_new(*place, old, behind_old) else {
             return false;
         };
         if old != new || !is_utf8(old) || !place.takes(VALUE + old.len()) {
@@ -126,7 +177,7 @@ impl<'r> SideBySide<'r> {
         requires new { spec_direct_at self.now.in_new place.old.in_new 0 ≡ Some new }
         ensures { result ≡ true → (depth : ℕ) → IsSame self.now place.old place.new depth }
     {
-        let Some(content) = self.content_in_both(old, new) else {
+        let Some(content) = self.content_in_both(*place, old, new) else {
             return false;
         };
         if !place.takes(VALUE + content.payload()) {
@@ -267,7 +318,7 @@ impl<'r> SideBySide<'r> {
         let Ok(old) = direct_at(self.in_old, place.in_old, 0) else {
             return false;
         };
-        let Ok(new) = direct_at(self.in_new, place.in_new, 0) else {
+        let Some(new) = self.header_in_new(*place, old) else {
             return false;
         };
         if old.header.kind != new.header.kind {

@@ -10,7 +10,7 @@ pub returns : goal.returns
 returns c = λ _.
     let i = c.self.inside in
     let k = c.in-Ok in
-    let n = c.in-Ok-key_bytes_at in
+    let n = c.in-Some in
     let of_old : key_bytes_at i.in_old.now c.args.place.now.in_old ≡ Some (k.old.now, k.behind_old) = search rules in
     let of_new : key_bytes_at i.in_new.now c.args.place.now.in_new ≡ Some (n.new.now, n.behind_new) = search rules in
     let same : k.old.now ≡ n.new.now = search rules in
