@@ -9,6 +9,7 @@ use mmdb_vectors::builder::{base_with_node, file_of_many_nodes};
 use std::alloc::Global;
 use std::cell::Cell;
 use std::io::{self, BufReader, Read, Write};
+use std::process::Abort;
 
 const TABS: Rows = Rows::Lines { delimiter: b'\t' };
 
