@@ -34,6 +34,14 @@ struct RowLines {
     count: u64,
 }
 
+/// A row that was read, and the lines that it has.
+#[derive(Clone, Copy)]
+struct ReadRow<'x> {
+    lines: RowLines,
+    read: RowRead,
+    bytes: &'x [u8],
+}
+
 // Which lines a row has, before which and with which so many lines end.
 fn lines_of(before: u64, behind: u64, read: RowRead, row: &[u8]) -> RowLines {
     let is_last = matches!(read, RowRead::Whole | RowRead::Unclosed) && row.last() != Some(&b'\n');
@@ -97,20 +105,18 @@ impl Gathering {
         task: &BuildTask<'t>,
         types: &'t Types,
         reader: &mut RowReader<'t>,
-        lines: RowLines,
-        read: RowRead,
-        row: &[u8],
+        row: ReadRow<'_>,
     ) -> Result<(), ProgramError> {
-        let entry = match read {
+        let entry = match row.read {
             RowRead::TooLong => Err(InputError::from(Reason::TooLong)),
             RowRead::Unclosed => Err(InputError::from(Reason::Unclosed)),
             RowRead::StillOpen => Err(InputError::from(Reason::StillOpen)),
             RowRead::Whole | RowRead::End => {
-                let row = text_of_row(lines.first, row);
-                reader.entry(alloc, task, types, row, &mut self.taken)
+                let text = text_of_row(row.lines.first, row.bytes);
+                reader.entry(alloc, task, types, text, &mut self.taken)
             }
         };
-        self.take(lines, entry)
+        self.take(row.lines, entry)
     }
 
     /// Gathers all rows of an input. An `Err` is of the input, or of memory.
@@ -134,8 +140,12 @@ impl Gathering {
             if read == RowRead::End {
                 break;
             }
-            let lines = lines_of(before, ended, read, &row);
-            self.take_row(alloc, task, types, &mut reader, lines, read, &row)?;
+            let read_row = ReadRow {
+                lines: lines_of(before, ended, read, &row),
+                read,
+                bytes: &row,
+            };
+            self.take_row(alloc, task, types, &mut reader, read_row)?;
             self.has_no_header = reader.wants_header();
             self.has_open_quote = matches!(read, RowRead::Unclosed | RowRead::StillOpen);
             if self.has_no_header || self.has_open_quote || self.is_too_large {

@@ -246,11 +246,17 @@ fn add_record<'a, V: Values>(
     }
 }
 
+// The members that have addresses, and the types of all others.
+#[derive(Clone, Copy)]
+struct MembersWanted<'t> {
+    columns: Columns<'t>,
+    types: &'t Types,
+}
+
 // What an object says.
 fn entry_in<'a, V: Values>(
     alloc: Global,
-    columns: Columns<'_>,
-    types: &Types,
+    wanted: MembersWanted<'_>,
     object: &json::Value<'a>,
     plan: &'a Plan,
     arena: &'a Bump,
@@ -259,9 +265,10 @@ fn entry_in<'a, V: Values>(
     let json::Value::Object(members) = object else {
         return Err(InputError::from(Reason::NotAnObject));
     };
-    let place = place_in(alloc, columns, object)?;
+    let types = wanted.types;
+    let place = place_in(alloc, wanted.columns, object)?;
     values.check(place)?;
-    let others = others_in(alloc, columns, members)?;
+    let others = others_in(alloc, wanted.columns, members)?;
     let value = match (object.get(RECORD), others.first()) {
         (Some(record), None) => add_record(alloc, record, types, arena, values)?,
         (None, Some(_)) => add_members(alloc, &others, plan, types, arena, values)?,
@@ -330,11 +337,14 @@ impl<'t> JsonLines<'t> {
         let Ok(text) = str::from_utf8(line) else {
             return Err(InputError::from(Reason::NotUtf8));
         };
-        let (columns, types) = (self.columns, self.types);
+        let wanted = MembersWanted {
+            columns: self.columns,
+            types: self.types,
+        };
         let arena = Bump::new(alloc);
         let object = json::Value::parse_strict(alloc, text, &mut self.scratch)?;
-        let plan = plan_in(alloc, columns, &object)?;
-        let entry = entry_in(alloc, columns, types, &object, &plan, &arena, values);
+        let plan = plan_in(alloc, wanted.columns, &object)?;
+        let entry = entry_in(alloc, wanted, &object, &plan, &arena, values);
         drop(object);
         entry
     }

@@ -1,8 +1,8 @@
 //! What differs, written as the fewest networks: neighbours with the same two values are joined.
 use crate::counts::{ABSENT, ChangeCounts, Presence};
-use crate::differences::{FoundInBoth, Pairs, put_difference};
+use crate::differences::{FoundInBoth, PairOfNetwork, Pairs, put_difference};
 use mmdb_blocks::{Block, BlockKind, Joiner};
-use mmdb_compare::{ShownPair, Stretch};
+use mmdb_compare::{ShownPair, TogetherStretch};
 use mmdb_console::ProgramError;
 use mmdb_layout::{Found, Layout};
 use mmdb_reader::IpNetwork;
@@ -33,7 +33,7 @@ impl<'r> ShownRun<'r> {
     }
 
     // Whether a stretch begins right after it, and is of the same kind of addresses.
-    fn is_before(&self, stretch: Stretch) -> bool {
+    fn is_before(&self, stretch: TogetherStretch) -> bool {
         let first = stretch.block.first;
         self.is_ipv4 == stretch.is_ipv4 && first > 0 && first - 1 == self.last
     }
@@ -96,12 +96,12 @@ impl<'a, 'r> Changes<'a, 'r> {
     }
 
     // Keeps what the first address of a stretch has.
-    fn keep_presence(&mut self, stretch: Stretch) {
+    fn keep_presence(&mut self, stretch: TogetherStretch, answers: FoundInBoth<'_, '_>) {
         let zeros = stretch.block.first.trailing_zeros() as usize;
         if let Some(presence) = self.presences.get_mut(zeros) {
             *presence = Presence {
-                in_old: stretch.has_old,
-                in_new: stretch.has_new,
+                in_old: answers.old.is_some(),
+                in_new: answers.new.is_some(),
             };
         }
     }
@@ -125,8 +125,10 @@ impl<'a, 'r> Changes<'a, 'r> {
                 self.alloc,
                 self.layout,
                 network,
-                run.answers(),
-                &run.shown,
+                PairOfNetwork {
+                    answers: run.answers(),
+                    shown: &run.shown,
+                },
                 &mut self.line,
                 out,
             ),
@@ -197,7 +199,7 @@ impl<'a, 'r> Changes<'a, 'r> {
     }
 
     // Whether the run goes on with what was found in a stretch at the same places of both files.
-    fn has_same_records(&self, stretch: Stretch, answers: FoundInBoth<'_, 'r>) -> bool {
+    fn has_same_records(&self, stretch: TogetherStretch, answers: FoundInBoth<'_, 'r>) -> bool {
         match &self.run {
             Some(run) => run.is_before(stretch) && run.answers().are_same_records(answers),
             None => false,
@@ -205,7 +207,7 @@ impl<'a, 'r> Changes<'a, 'r> {
     }
 
     // Whether the run goes on with values that are shown so.
-    fn has_same_values(&self, stretch: Stretch, shown: &ShownPair) -> bool {
+    fn has_same_values(&self, stretch: TogetherStretch, shown: &ShownPair) -> bool {
         match &self.run {
             Some(run) => run.is_before(stretch) && run.shown == *shown,
             None => false,
@@ -215,7 +217,7 @@ impl<'a, 'r> Changes<'a, 'r> {
     // Goes on with other values where they are not the run's own: what waits is written, and another run begins.
     fn change_to<O: Write>(
         &mut self,
-        stretch: Stretch,
+        stretch: TogetherStretch,
         answers: FoundInBoth<'_, 'r>,
         pairs: &mut Pairs<'_>,
         out: &mut O,
@@ -237,7 +239,8 @@ impl<'a, 'r> Changes<'a, 'r> {
     // Adds the block of a stretch to the run.
     fn add<O: Write>(
         &mut self,
-        stretch: Stretch,
+        stretch: TogetherStretch,
+        answers: FoundInBoth<'_, '_>,
         pairs: &mut Pairs<'_>,
         out: &mut O,
     ) -> Result<(), ProgramError> {
@@ -246,7 +249,7 @@ impl<'a, 'r> Changes<'a, 'r> {
             return Err(ProgramError::OutOfOrder);
         }
         self.put_settled(pairs, out)?;
-        self.keep_presence(stretch);
+        self.keep_presence(stretch, answers);
         if let Some(run) = &mut self.run {
             run.last = block.last();
         }
@@ -257,7 +260,7 @@ impl<'a, 'r> Changes<'a, 'r> {
     #[inline(never)]
     pub(crate) fn push<O: Write>(
         &mut self,
-        stretch: Stretch,
+        stretch: TogetherStretch,
         answers: FoundInBoth<'_, 'r>,
         pairs: &mut Pairs<'_>,
         out: &mut O,
@@ -265,6 +268,6 @@ impl<'a, 'r> Changes<'a, 'r> {
         if !self.has_same_records(stretch, answers) {
             self.change_to(stretch, answers, pairs, out)?;
         }
-        self.add(stretch, pairs, out)
+        self.add(stretch, answers, pairs, out)
     }
 }

@@ -1,17 +1,20 @@
 //! What changed between two files.
 use crate::changes::{Changes, kind_of, network_of};
-use crate::counts::ChangeCounts;
+use crate::counts::{ChangeCounts, Presence};
 use crate::differences::{FoundInBoth, Pairs, UnreadableValue, put_names};
 use crate::same::are_all_readable;
 use crate::two_databases::{TwoDatabases, open_two};
 use mmdb_arguments::{DiffArguments, NoRequest};
 use mmdb_blocks::{BlockKind, Kinds};
-use mmdb_compare::{Comparison, ComparisonPart, Offsets, Side, Stretch, UnreadLeaf};
+use mmdb_compare::{
+    AskedDatabase, Offsets, Side, Together, TogetherPart, TogetherStretch, UnreadLeaf,
+};
 use mmdb_console::{
     Console, DIFFERENT, DONE, FAILED, Pace, Passed, ProgramError, Where, note_range, range_of,
 };
 use mmdb_layout::{
-    Database, FieldsMet, Layout, Networks, can_be_walked, layout_of, networks_in, range_asked,
+    Database, FieldsMet, Found, Layout, Networks, can_be_walked, layout_of, networks_in,
+    range_asked,
 };
 use mmdb_reader::{IpNetwork, MaxMindDbError};
 use std::alloc::{AllocError, Global};
@@ -54,6 +57,13 @@ fn diff_task<'a>(
         layout: layout_of(alloc, arguments.is_csv, arguments.fields.as_slice(), &[])?,
         exit_code: arguments.exit_code,
     })
+}
+
+// A stretch of both databases, and which of them have a record there.
+#[derive(Clone, Copy)]
+struct Stretch {
+    part: TogetherStretch,
+    presence: Presence,
 }
 
 // Stretches that wait to be compared, and where the records of each are. What is kept of them is looked for side by side,
@@ -210,7 +220,7 @@ fn report_leaf<O: Write, E: Pace>(
 
 // The network whose value can't be read, as its file has it.
 fn network_of_fault(
-    stretch: Stretch,
+    stretch: TogetherStretch,
     side: Side,
     answers: FoundInBoth<'_, '_>,
 ) -> Result<IpNetwork, ProgramError> {
@@ -228,7 +238,7 @@ fn network_of_fault(
 #[inline(never)]
 fn report_value<O: Write, E: Pace>(
     task: &DiffTask<'_>,
-    stretch: Stretch,
+    stretch: TogetherStretch,
     answers: FoundInBoth<'_, '_>,
     unreadable: &UnreadableValue,
     so_far: &mut SoFar<'_, '_>,
@@ -249,7 +259,7 @@ fn report_value<O: Write, E: Pace>(
 // Compares what was found in a stretch, and takes or reports it where there is something to say.
 fn compare_answers<'r, O: Write, E: Pace>(
     task: &DiffTask<'_>,
-    stretch: Stretch,
+    stretch: TogetherStretch,
     answers: FoundInBoth<'_, 'r>,
     so_far: &mut SoFar<'_, 'r>,
     console: &mut Console<'_, O, E>,
@@ -268,18 +278,35 @@ fn compare_answers<'r, O: Write, E: Pace>(
     }
 }
 
+// What the database of a side has in a stretch, if it has a record there.
+fn found_in<'r>(
+    together: &Together<'r, Vec<u8>>,
+    side: Side,
+    stretch: Stretch,
+) -> Option<Found<'r>> {
+    let has_record = match side {
+        Side::Old => stretch.presence.in_old,
+        Side::New => stretch.presence.in_new,
+    };
+    if has_record {
+        together.found(side.place(), stretch.part)
+    } else {
+        None
+    }
+}
+
 // Compares a stretch of which it was not kept that both databases have the same. Most records have not changed, which is
 // seen of them where they are.
 #[inline(never)]
 fn compare_stretch<'r, O: Write, E: Pace>(
     task: &DiffTask<'_>,
-    comparison: &Comparison<'r, Vec<u8>>,
+    together: &Together<'r, Vec<u8>>,
     stretch: Stretch,
     offsets: Option<Offsets>,
     so_far: &mut SoFar<'_, 'r>,
     console: &mut Console<'_, O, E>,
 ) -> Result<(), ProgramError> {
-    if !task.kinds.has(kind_of(stretch.is_ipv4)) {
+    if !task.kinds.has(kind_of(stretch.part.is_ipv4)) {
         return Ok(());
     }
     if let Some(offsets) = offsets {
@@ -287,13 +314,13 @@ fn compare_stretch<'r, O: Write, E: Pace>(
             return Ok(());
         }
     }
-    let old = comparison.found_in_old(stretch);
-    let new = comparison.found_in_new(stretch);
+    let old = found_in(together, Side::Old, stretch);
+    let new = found_in(together, Side::New, stretch);
     let answers = FoundInBoth {
         old: old.as_ref(),
         new: new.as_ref(),
     };
-    compare_answers(task, stretch, answers, so_far, console)
+    compare_answers(task, stretch.part, answers, so_far, console)
 }
 
 // Which of the stretches that wait have the same in both databases, as far as that is kept.
@@ -318,7 +345,7 @@ fn show_compared<O: Write, E: Pace>(so_far: &mut SoFar<'_, '_>, console: &mut Co
 // Compares the stretches that wait.
 fn compare_waiting<'r, O: Write, E: Pace>(
     task: &DiffTask<'_>,
-    comparison: &Comparison<'r, Vec<u8>>,
+    together: &Together<'r, Vec<u8>>,
     so_far: &mut SoFar<'_, 'r>,
     console: &mut Console<'_, O, E>,
 ) -> Result<(), ProgramError> {
@@ -330,7 +357,7 @@ fn compare_waiting<'r, O: Write, E: Pace>(
         let Some((stretch, offsets)) = so_far.waiting.at(index) else {
             break;
         };
-        compare_stretch(task, comparison, stretch, offsets, so_far, console)?;
+        compare_stretch(task, together, stretch, offsets, so_far, console)?;
     }
     so_far.waiting.clear();
     show_compared(so_far, console);
@@ -341,19 +368,23 @@ fn compare_waiting<'r, O: Write, E: Pace>(
 #[inline(always)]
 fn take_stretch<'r, O: Write, E: Pace>(
     task: &DiffTask<'_>,
-    comparison: &Comparison<'r, Vec<u8>>,
-    stretch: Stretch,
+    together: &Together<'r, Vec<u8>>,
+    part: TogetherStretch,
     so_far: &mut SoFar<'_, 'r>,
     console: &mut Console<'_, O, E>,
 ) -> Result<(), ProgramError> {
-    let old = comparison.offset_in_old(stretch);
-    let new = comparison.offset_in_new(stretch);
+    let old = together.offset(Side::Old.place());
+    let new = together.offset(Side::New.place());
     let offsets = Offsets::of(old, new);
     if so_far.pairs.kept.were_last_same(offsets) {
         return Ok(());
     }
-    if so_far.waiting.add(stretch, offsets)? {
-        compare_waiting(task, comparison, so_far, console)?;
+    let presence = Presence {
+        in_old: old.is_some(),
+        in_new: new.is_some(),
+    };
+    if so_far.waiting.add(Stretch { part, presence }, offsets)? {
+        compare_waiting(task, together, so_far, console)?;
     }
     Ok(())
 }
@@ -362,13 +393,13 @@ fn take_stretch<'r, O: Write, E: Pace>(
 #[inline(never)]
 fn take_unread<'r, O: Write, E: Pace>(
     task: &DiffTask<'_>,
-    comparison: &mut Comparison<'r, Vec<u8>>,
+    together: &mut Together<'r, Vec<u8>>,
     side: Side,
     so_far: &mut SoFar<'_, 'r>,
     console: &mut Console<'_, O, E>,
 ) -> Result<(), ProgramError> {
-    compare_waiting(task, comparison, so_far, console)?;
-    match comparison.take_unread(side) {
+    compare_waiting(task, together, so_far, console)?;
+    match together.take_unread(side.place()) {
         Some(leaf) => {
             let reported = report_leaf(file_of(task, side), &leaf, so_far, console);
             drop(leaf);
@@ -382,22 +413,26 @@ fn take_unread<'r, O: Write, E: Pace>(
 #[inline(never)]
 fn compare_all<'r, O: Write, E: Pace>(
     task: &DiffTask<'_>,
-    comparison: &mut Comparison<'r, Vec<u8>>,
+    together: &mut Together<'r, Vec<u8>>,
     so_far: &mut SoFar<'_, 'r>,
     console: &mut Console<'_, O, E>,
 ) -> Result<(), ProgramError> {
     for _ in 0..u64::MAX {
-        match comparison.next_part() {
-            Some(ComparisonPart::Stretch(stretch)) => {
-                take_stretch(task, comparison, stretch, so_far, console)?;
+        match together.next_part() {
+            Some(TogetherPart::Stretch(stretch)) => {
+                take_stretch(task, together, stretch, so_far, console)?;
             }
-            Some(ComparisonPart::Unread(side)) => take_unread(
-                task, comparison, side, so_far, console,
+            Some(TogetherPart::Unread(place)) => take_unread(
+                task,
+                together,
+                Side::at(place),
+                so_far,
+                console,
             )?,
             None => break,
         }
     }
-    compare_waiting(task, comparison, so_far, console)?;
+    compare_waiting(task, together, so_far, console)?;
     let pairs = &mut so_far.pairs;
     so_far.changes.finish(pairs, console.out)
 }
@@ -437,12 +472,12 @@ fn all_of(old: &Database, new: &Database, kinds: Kinds) -> Result<IpNetwork, Max
 // Compares two databases side by side with what is kept so far, and answers the status.
 fn compare_with<'r, O: Write, E: Pace>(
     task: &DiffTask<'_>,
-    comparison: &mut Comparison<'r, Vec<u8>>,
+    together: &mut Together<'r, Vec<u8>>,
     so_far: &mut SoFar<'_, 'r>,
     console: &mut Console<'_, O, E>,
 ) -> Result<u8, ProgramError> {
     put_names(console.alloc, &task.layout, console.out)?;
-    compare_all(task, comparison, so_far, console)?;
+    compare_all(task, together, so_far, console)?;
     so_far.pairs.let_go();
     report_counts(
         so_far.changes.counts,
@@ -456,11 +491,11 @@ fn compare_with<'r, O: Write, E: Pace>(
 fn compare<'a, 'r, O: Write, E: Pace>(
     task: &'a DiffTask<'a>,
     databases: &'r TwoDatabases,
-    comparison: &mut Comparison<'r, Vec<u8>>,
+    together: &mut Together<'r, Vec<u8>>,
     console: &mut Console<'_, O, E>,
 ) -> Result<u8, ProgramError> {
     let mut so_far = SoFar::new(console.alloc, &task.layout, databases)?;
-    let done = compare_with(task, comparison, &mut so_far, console);
+    let done = compare_with(task, together, &mut so_far, console);
     drop(so_far);
     done
 }
@@ -535,14 +570,24 @@ fn compare_range<'a, O: Write, E: Pace>(
     task: &'a DiffTask<'a>,
     console: &mut Console<'_, O, E>,
 ) -> Result<u8, ProgramError> {
-    match Comparison::new(console.alloc, databases.old(), databases.newer(), range) {
-        Ok(mut comparison) => {
-            let done = compare(task, databases, &mut comparison, console);
-            drop(comparison);
+    let both = [
+        AskedDatabase {
+            reader: databases.old(),
+            range,
+        },
+        AskedDatabase {
+            reader: databases.newer(),
+            range,
+        },
+    ];
+    match Together::new(console.alloc, &both) {
+        Ok(mut together) => {
+            let done = compare(task, databases, &mut together, console);
+            drop(together);
             done
         }
-        Err((side, error)) => {
-            console.report(file_of(task, side), &error);
+        Err((place, error)) => {
+            console.report(file_of(task, Side::at(place)), &error);
             drop(error);
             Ok(FAILED)
         }

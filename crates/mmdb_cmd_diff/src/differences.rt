@@ -537,20 +537,26 @@ fn put_cells<O: Write>(
     put(line.as_slice(), out)
 }
 
+/// What two databases have for a network, and what is shown of it.
+#[derive(Clone, Copy)]
+pub(crate) struct PairOfNetwork<'f, 'r> {
+    pub(crate) answers: FoundInBoth<'f, 'r>,
+    pub(crate) shown: &'f ShownPair,
+}
+
 /// Writes the line of a network with its values in both databases. Of a line of JSON the beginning is put together in
 /// `line`.
 pub(crate) fn put_difference<O: Write>(
     alloc: Global,
     layout: &Layout<'_>,
     network: IpNetwork,
-    answers: FoundInBoth<'_, '_>,
-    shown: &ShownPair,
+    pair: PairOfNetwork<'_, '_>,
     line: &mut Vec<u8>,
     out: &mut O,
 ) -> Result<(), ProgramError> {
     match layout {
-        Layout::Cells(fields) => put_cells(alloc, fields, network, answers, out),
-        _ => put_object(network, shown, line, out),
+        Layout::Cells(fields) => put_cells(alloc, fields, network, pair.answers, out),
+        _ => put_object(network, pair.shown, line, out),
     }
 }
 

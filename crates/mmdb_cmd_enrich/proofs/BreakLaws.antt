@@ -1,11 +1,11 @@
 -- How many delimiters are between the cells of a row.
-use Rattle.std.proofs.Common.{◌≡◌, ℕ, zero, suc, ◌+◌, ◌-◌, ◌<◌, ◌≤◌, List, [], ◌∷◌, ◌++◌, length, take, drop, Option, Some, None, Bool, true, false, is_some, nat_lt, nat_le, cond, if◌then◌else◌, replicate, refl, sym, ap, ◌∙◌, subst, arith, append_assoc, append-nil, length-drop}
+use Rattle.std.proofs.Common.{◌≡◌, ℕ, suc, ◌+◌, ◌-◌, ◌<◌, ◌≤◌, List, [], ◌∷◌, ◌++◌, length, drop, None, true, false, is_some, nat_lt, nat_le, cond, replicate, refl, sym, ap, ◌∙◌, subst, arith, append_assoc, append-nil, length-drop}
 use Rattle.std.proofs.Math.Logic.{⊎_elim}
 use Rattle.std.proofs.lemmas.Bool.{cases_lt}
 use Rattle.std.proofs.lemmas.Bool.Decides.{nat_tests}
 use Rattle.mmdb_filter.specs.declared.rows.Rows.{Rows}
 use Rattle.mmdb_filter.specs.declared.rows.RowPosition.TheVariants.{Cell}
-use Rattle.mmdb_cmd_enrich.specs.Columns.{cell_length, column_of, delimiter_of, HasBreaks}
+use Rattle.mmdb_cmd_enrich.specs.Columns.{cell_length, column_of, HasBreaks}
 use Rattle.mmdb_cmd_enrich.proofs.ColumnLaws.{column_suc, whole_column}
 
 -- What the rest of a row has, behind so many delimiters, is what the row has from there on.

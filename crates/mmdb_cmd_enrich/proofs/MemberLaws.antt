@@ -1,10 +1,8 @@
 -- Members, one after another.
-use Rattle.std.proofs.Common.{◌≡◌, ℕ, zero, suc, List, [], ◌∷◌, ◌++◌, Option, Some, None, option_map, MatchOption, ◌⊎◌, ◌<◌, ◌≤◌, length, arith, IfSome, IfNone, Bool, true, false, inl, inr, subst, refl, sym, ap, ◌∙◌, drop, append_assoc, append-nil}
-use Rattle.std.specs.Global.{Vec}
-use Rattle.std.specs.declared.net.ip_addr.IpAddr.{IpAddr}
-use Rattle.json.specs.Token.{Token, key, null, begin_object, end_object}
+use Rattle.std.proofs.Common.{◌≡◌, ℕ, zero, suc, List, [], ◌∷◌, ◌++◌, Option, Some, None, option_map, ◌<◌, length, arith, false, inl, inr, subst, refl, sym, ap, ◌∙◌, drop, append_assoc, append-nil}
+use Rattle.json.specs.Token.{Token, key, null}
 use Rattle.json.specs.Tree.{json_tokens}
-use Rattle.mmdb_format.specs.Error.{MemoryApart, kind_of, OfInput, OfDatabase}
+use Rattle.mmdb_format.specs.Error.{MemoryApart}
 use Rattle.mmdb_format.specs.Unfolding.{Tree}
 use Rattle.mmdb_format.specs.declared.error.MaxMindDbError.{MaxMindDbError}
 use Rattle.mmdb_format.specs.declared.error.MaxMindDbError.TheVariants.{InvalidDatabase, Io, Decoding, ResourceLimit, InvalidNetwork, InvalidInput, Memory}
@@ -13,20 +11,12 @@ use Rattle.mmdb_json.specs.Shown.{WritesShown}
 use Rattle.mmdb_reader.specs.declared.path.PathElement.{PathElement}
 use Rattle.mmdb_value.specs.Values.{value_tree}
 use Rattle.mmdb_value.specs.declared.any_value.Value.{Value}
-use Rattle.mmdb_reader.specs.File.{Database, data_section}
-use Rattle.mmdb_reader.specs.Lookup.{Answers, CanAsk, IsInvalidAt, outcome_at}
 use Rattle.mmdb_filter.specs.declared.counts.Outcome.{Outcome}
-use Rattle.mmdb_filter.specs.declared.counts.Outcome.TheVariants.{Found, Absent, Failed}
-use Rattle.mmdb_filter.specs.declared.filter.Added.{Added}
-use Rattle.mmdb_layout.specs.Reading.{reads_in}
-use Rattle.mmdb_cmd_enrich.specs.Fields.{AreValue, AreFields, AreValues, HasUnreadField, IsUnread, IsMemberAfter, IsNullMemberAfter, null_fields, null_values, object_tokens}
-use Rattle.mmdb_cmd_enrich.specs.Members.{HasUnreadMember, PutsMember, PutsText}
-use Rattle.mmdb_objects.specs.Longer.{comma_behind}
-use Rattle.mmdb_cmd_enrich.specs.Working.{PutsValue, PutsWhole, PutsFieldsAfter, PutsValuesAfter, PutsMemberFor, PutsNone, PutsNoneAfter, PutsToObject}
-use Rattle.mmdb_cmd_enrich.specs.Asked.{AsksIfAny}
-use Rattle.mmdb_cmd_enrich.specs.Wanted.{MemberAfter, MemberOf}
+use Rattle.mmdb_net.specs.declared.network.IpNetwork.{IpNetwork}
+use Rattle.mmdb_cmd_enrich.specs.Fields.{AreValue, AreFields, HasUnreadField, IsUnread, MemberAfter, front_tokens, object_tokens, reads_of_kind}
+use Rattle.mmdb_cmd_enrich.specs.Working.{PutsValue, PutsWhole, PutsFieldsAfter, PutsValuesAfter}
+use Rattle.mmdb_cmd_enrich.specs.declared.members.MemberKind.{MemberKind}
 use Rattle.mmdb_cmd_enrich.specs.declared.members.NamedField.{NamedField}
-use Rattle.mmdb_objects.specs.declared.objects.Line.{Line}
 
 -- tokens that grew by those of a value that was read, and by `null` where none was there
 pub value_put : (answer : Option (Option Tree)) (value : Option Value) (v : Value) (old new : List Token) → answer ≡ Some (option_map value_tree value) → value ≡ Some v → WritesShown (value_tree v) old new → PutsValue answer old new
@@ -91,85 +81,13 @@ pub fields_unread : (reads : List PathElement → Option (Option Tree)) (fields 
 fields_unread reads [] e some why = absurd (omega (arith, some))
 fields_unread reads (field ∷ fields) e some why = why
 
--- the member of what was read, after others, or that a field can't be read
-pub member_kept : (front : List Token) (reads others : List PathElement → Option (Option Tree)) (name : List ℕ) (fields : List NamedField) (member : Option (Vec ℕ)) (cells : List ℕ) (outcome : Outcome)
-    → reads ≡ others
-    → IfSome member (λ text. IsMemberAfter front reads name fields text.items)
-    → IfNone member (IsUnread reads fields)
-    → MatchOption member ((cells ≡ []) × (outcome ≡ Failed)) (λ text. (cells ≡ text.items) × (outcome ≡ Found))
-    → MemberAfter front others name fields cells outcome
-member_kept front reads others name fields None cells outcome same some none kept =
-    subst (λ r. MemberAfter front r name fields cells outcome) same (inr (none, kept.0, kept.1))
-member_kept front reads others name fields (Some text) cells outcome same some none kept =
-    subst (λ r. MemberAfter front r name fields cells outcome) same (inl (subst (IsMemberAfter front reads name fields) (sym kept.0) some, kept.1))
-
--- what is read in the record that a lookup found
-pub reads_same : (db asked : Database) (found : Option ℕ) (offset : ℕ) → asked ≡ db → found ≡ Some offset → reads_in (data_section asked) found ≡ reads_in (data_section db) (Some offset)
-reads_same db asked found offset same at = ap (λ d. reads_in (data_section d) found) same ∙ ap (λ o. reads_in (data_section db) o) at
-
--- the member of the record of an address
-pub member_put : (db : Database) (nulls : Bool) (name : List ℕ) (fields : List NamedField) (line : Line) (address : IpAddr) (leaf : List Bool) (found : Option ℕ) (offset : ℕ) (text : List ℕ) (outcome : Outcome) (addition : Added) (old new : List ℕ)
-    → found ≡ Some offset → Answers db address leaf (outcome_at found) → MemberOf (reads_in (data_section db) (Some offset)) name fields text outcome → PutsMember line text outcome addition old new → PutsMemberFor db nulls name fields line (Some address) addition old new
-member_put db nulls name fields line address leaf found offset text outcome addition old new at answers (inl (is, here)) puts =
-    let there = subst (λ f. Answers db address leaf (outcome_at f)) at answers in
-    let (o, b, put) = subst (λ x. PutsMember line text x addition old new) here puts in
-    (comma_behind line.is_empty ++ text, inr (inr (leaf, offset, text, there, is, refl, b, o)), put)
-member_put db nulls name fields line address leaf found offset text outcome addition old new at answers (inr (rejected, none, here)) puts =
-    let there = subst (λ f. Answers db address leaf (outcome_at f)) at answers in
-    let (o, b, put) = subst (λ x. PutsMember line text x addition old new) here puts in
-    ([], inl (refl, o, inr (inr (leaf, offset, there, rejected))), put ∙ sym (append-nil old))
-
--- no record
-pub absent_put : (db : Database) (nulls : Bool) (name : List ℕ) (fields : List NamedField) (line : Line) (address : IpAddr) (leaf : List Bool) (found : Option ℕ) (addition : Added) (old new : List ℕ)
-    → found ≡ None → Answers db address leaf (outcome_at found) → PutsNone nulls name fields line Absent addition old new → PutsMemberFor db nulls name fields line (Some address) addition old new
-absent_put db nulls name fields line address leaf found addition old new none answers (o, (extra, adds, put)) =
-    (extra, inr (inl (o, (leaf, subst (λ f. Answers db address leaf (outcome_at f)) none answers), adds)), put)
-
--- a member of which each field is null, after others, or nothing
-pub null_put : (front : List Token) (name : List ℕ) (fields : List NamedField) (line : Line) (outcome : Outcome) (text : List ℕ) (addition : Added) (old new : List ℕ) → IsNullMemberAfter front name fields text
-    → PutsText line text outcome addition old new → PutsNoneAfter front true name fields line outcome addition old new
-null_put front name fields line outcome text addition old new is (o, b, put) = (o, (comma_behind line.is_empty ++ text, (text, is, refl, b), put))
-
-pub nothing_put : (front : List Token) (name : List ℕ) (fields : List NamedField) (line : Line) (outcome : Outcome) (addition : Added) (old : List ℕ) → addition.outcome ≡ outcome → PutsNoneAfter front false name fields line outcome addition old old
-nothing_put front name fields line outcome addition old o = (o, ([], refl, sym (append-nil old)))
-
-pub none_put : (front : List Token) (nulls wanted : Bool) (name : List ℕ) (fields : List NamedField) (line : Line) (outcome : Outcome) (addition : Added) (old new : List ℕ) → nulls ≡ wanted
-    → PutsNoneAfter front wanted name fields line outcome addition old new → PutsNoneAfter front nulls name fields line outcome addition old new
-none_put front nulls wanted name fields line outcome addition old new is puts = subst (λ b. PutsNoneAfter front b name fields line outcome addition old new) (sym is) puts
-
--- the lookup of the address fails
-pub rejected_put : (db : Database) (nulls : Bool) (name : List ℕ) (fields : List NamedField) (line : Line) (address : IpAddr) (addition : Added) (old : List ℕ) → HasUnreadMember db fields address → addition.outcome ≡ Failed → PutsMemberFor db nulls name fields line (Some address) addition old old
-rejected_put db nulls name fields line address addition old rejected o = ([], inl (refl, o, rejected), sym (append-nil old))
-
--- as many bytes after the member as after the brace, or none
-pub behind_put : (line : Line) (text : List ℕ) (outcome : Outcome) (addition : Added) (old new : List ℕ) → (outcome ≡ Found) ⊎ (outcome ≡ Failed) → PutsMember line text outcome addition old new → addition.behind ≤ line.behind
-behind_put line text outcome addition old new (inl here) puts =
-    let (o, b, put) = subst (λ x. PutsMember line text x addition old new) here puts in omega (arith, b)
-behind_put line text outcome addition old new (inr here) puts =
-    let (o, b, put) = subst (λ x. PutsMember line text x addition old new) here puts in omega (arith, b)
-
--- why the lookup of an address fails
-pub address_rejected : (db : Database) (fields : List NamedField) (address : IpAddr) (e : MaxMindDbError) → (kind_of e ≡ OfInput) ⊎ (kind_of e ≡ OfDatabase)
-    → (kind_of e ≡ OfInput → CanAsk db address → ⊥) → (kind_of e ≡ OfDatabase → IsInvalidAt db address) → HasUnreadMember db fields address
-address_rejected db fields address e (inl is) ask at = inl (ask is)
-address_rejected db fields address e (inr is) ask at = inr (inl (at is))
-
--- what an object is given by its address
-pub object_put : (db : Database) (nulls : Bool) (name : List ℕ) (fields : List NamedField) (line : Line) (asked : Option IpAddr) (addition : Added) (old new : List ℕ) → line.is_taken ≡ false
-    → AsksIfAny db line.address asked → PutsMemberFor db nulls name fields line asked addition old new → PutsToObject db nulls name fields line addition old new
-object_put db nulls name fields line asked addition old new free asks (extra, adds, put) = (extra, put, inr (free, asked, asks, adds))
-
--- `null` without a field, and an object of fields that are
-pub null_whole : (front : List Token) (fields : List NamedField) (old new : List Token) → length fields ≡ 0 → new ≡ old ++ null ∷ [] → new ≡ old ++ null_values front fields
-null_whole front [] old new none put = put
-null_whole front (field ∷ fields) old new none put = absurd (omega (arith, none))
-
-pub null_object : (front : List Token) (fields : List NamedField) (old begun fronted named new : List Token) → 0 < length fields
-    → begun ≡ old ++ begin_object ∷ [] → fronted ≡ begun ++ front → named ≡ fronted ++ null_fields fields → new ≡ named ++ end_object ∷ [] → new ≡ old ++ null_values front fields
-null_object front [] old begun fronted named new some begins fronts names ends = absurd (omega (arith, some))
-null_object front (field ∷ fields) old begun fronted named new some begins fronts names ends =
-    ends ∙ ap (λ t. t ++ end_object ∷ []) (names ∙ ap (λ t. t ++ null_fields (field ∷ fields)) (fronts ∙ ap (λ t. t ++ front) begins))
-    ∙ append_assoc ((old ++ begin_object ∷ []) ++ front) (null_fields (field ∷ fields)) (end_object ∷ [])
-    ∙ append_assoc (old ++ begin_object ∷ []) front (null_fields (field ∷ fields) ++ end_object ∷ [])
-    ∙ append_assoc old (begin_object ∷ []) (front ++ (null_fields (field ∷ fields) ++ end_object ∷ []))
-    ∙ ap (λ t. old ++ (begin_object ∷ t)) (sym (append_assoc front (null_fields (field ∷ fields)) (end_object ∷ [])))
+-- a member of the same kind, name and fields, of what is read the same
+pub member_same : (kind wanted : MemberKind) (shown : Option IpNetwork) (first others each all : List PathElement → Option (Option Tree)) (name called : List ℕ) (fields given : List NamedField) (text : List ℕ) (outcome : Outcome)
+    → kind ≡ wanted → first ≡ others → each ≡ all → name ≡ called → fields ≡ given
+    → MemberAfter (front_tokens kind shown) (reads_of_kind kind first each) name fields text outcome → MemberAfter (front_tokens wanted shown) (reads_of_kind wanted others all) called given text outcome
+member_same kind wanted shown first others each all name called fields given text outcome k f e n g made =
+    subst (λ x. MemberAfter (front_tokens x shown) (reads_of_kind x others all) called given text outcome) k
+    (subst (λ x. MemberAfter (front_tokens kind shown) (reads_of_kind kind x all) called given text outcome) f
+    (subst (λ x. MemberAfter (front_tokens kind shown) (reads_of_kind kind first x) called given text outcome) e
+    (subst (λ x. MemberAfter (front_tokens kind shown) (reads_of_kind kind first each) x given text outcome) n
+    (subst (λ x. MemberAfter (front_tokens kind shown) (reads_of_kind kind first each) name x text outcome) g made))))

@@ -1,20 +1,16 @@
 -- The smallest network of an address.
-use Rattle.std.proofs.Common.{◌≡◌, ℕ, List, [], ◌∷◌, ◌++◌, map, Option, Some, None, Bool, true, false, nat_lt, inl, inr, refl, sym, ap, ◌∙◌, subst, arith, append_assoc}
+use Rattle.std.proofs.Common.{◌≡◌, ℕ, List, [], ◌∷◌, map, Option, Some, None, Bool, true, false, nat_lt, inl, inr, refl, sym, ap, ◌∙◌, subst, arith}
 use Rattle.std.proofs.lemmas.Bool.Decides.{nat_tests}
 use Rattle.std.specs.declared.convert.AsSlice.{Ghosts}
 use Rattle.std.specs.declared.net.ip_addr.IpAddr.{IpAddr}
-use Rattle.std.specs.Global.{Vec}
 use Rattle.mmdb_net.specs.declared.network.IpNetwork.{IpNetwork}
 use Rattle.mmdb_reader.specs.File.{Database}
 use Rattle.mmdb_reader.specs.Found.{leaf_of, offset_found, shown_as_ipv4}
 use Rattle.mmdb_reader.specs.Shown.{IsShownBy}
 use Rattle.mmdb_reader.specs.declared.lookup_result.LookupResult.{LookupResult}
-use Rattle.mmdb_reader.specs.declared.path.PathElement.{PathElement}
-use Rattle.mmdb_filter.specs.declared.counts.Outcome.{Outcome}
-use Rattle.mmdb_filter.specs.declared.rows.Rows.{Rows}
-use Rattle.mmdb_cmd_enrich.specs.Layers.{Has, CanAskAny, has_record}
-use Rattle.mmdb_cmd_enrich.specs.Networks.{HasNetwork, depth_of, smaller, smallest, IsFront, AddsFront}
-use Rattle.mmdb_cmd_enrich.specs.Working.{offset_in, IsAnswerOf, IsAnswer, AreAnswers, IsNetworkOf, AreNetworks, IsSmallest, ShowNetworks, IsFrontOf, PutsFrontOf, AddsAtAllTo, AddsForAllTo}
+use Rattle.mmdb_cmd_enrich.specs.Layers.{Has, has_record}
+use Rattle.mmdb_cmd_enrich.specs.Networks.{HasNetwork, depth_of, smaller, smallest, IsShown}
+use Rattle.mmdb_cmd_enrich.specs.Working.{offset_in, IsAnswerOf, IsAnswer, IsNetworkOf, AreNetworks, IsSmallest, IsShownOf, ShowNetworks}
 
 smaller_none : (network : Option IpNetwork) → smaller network None ≡ network
 smaller_none None = refl
@@ -84,22 +80,12 @@ pub answers_show : {S : Type 0} {G : Ghosts S ℕ} (db : Database) (left : List 
 answers_show db left address answer rest is all [] are = absurd are
 answers_show db left address answer rest is all (network ∷ networks) are = (answer_shows db address answer network is are.0, all networks are.1)
 
--- what comes before the fields of answers is of these databases
-front_added : {S : Type 0} {G : Ghosts S ℕ} (dbs : List Database) (wanted : Bool) (rows : Rows) (address : IpAddr) (answers : List (Option (LookupResult S G))) (front : List ℕ)
-    → ShowNetworks dbs address answers → IsFrontOf wanted rows answers front → AddsFront dbs wanted rows address (has_record (map offset_in answers)) front
-front_added dbs false rows address answers front all is = is
-front_added dbs true rows address answers front all is =
-    let (network, (networks, are, shown), put) = is in
-    (networks, all networks are, subst (λ n. IsFront rows n front) shown put)
+-- no answers have no networks
+pub none_shown : (S : Type 0) (G : Ghosts S ℕ) (address : IpAddr) → ShowNetworks {S = S} {G = G} [] address []
+none_shown S G address [] are = tt
+none_shown S G address (network ∷ networks) are = absurd are
 
--- what is added for answers, behind what comes before the fields
-pub found_added : {S : Type 0} {G : Ghosts S ℕ} (dbs : List Database) (wanted : Bool) (rows : Rows) (fields : Vec (Vec PathElement)) (address : IpAddr) (answers : List (Option (LookupResult S G))) (outcome : Outcome) (old middle new : Vec ℕ)
-    → CanAskAny dbs address → AreAnswers dbs address answers → PutsFrontOf wanted rows answers old.items middle.items → AddsAtAllTo dbs rows fields (map offset_in answers) outcome middle new
-    → AddsForAllTo dbs wanted rows fields address outcome old new
-found_added dbs wanted rows fields address answers outcome old middle new can all put adds =
-    let (front, is, ahead) = put in
-    let (cells, at, behind) = adds in (
-      front ++ cells,
-      inr (can, map offset_in answers, all.1, front, cells, refl, front_added dbs wanted rows address answers front all.2 is, at),
-      behind ∙ (ap (λ l. l ++ cells) ahead ∙ append_assoc old.items front cells),
-    )
+-- the network that is shown of answers is that of the address
+pub shown_is : {S : Type 0} {G : Ghosts S ℕ} (dbs : List Database) (address : IpAddr) (answers : List (Option (LookupResult S G))) (network : Option IpNetwork)
+    → ShowNetworks dbs address answers → IsShownOf answers network → IsShown dbs address (has_record (map offset_in answers)) network
+shown_is dbs address answers network all (networks, are, is) = (networks, all networks are, is)

@@ -6,7 +6,6 @@ use Rattle.mmdb_format.specs.Contents.{text}
 use Rattle.mmdb_format.specs.Unfolding.{Tree, scalar}
 use Rattle.mmdb_json.specs.Texts.{IsCompact}
 use Rattle.mmdb_filter.specs.Cells.{csv_cell}
-use Rattle.mmdb_filter.specs.declared.rows.Rows.{Rows}
 use Rattle.mmdb_filter.specs.declared.rows.Rows.TheVariants.{Lines, Csv}
 use Rattle.mmdb_value.specs.Values.{value_tree, tree_step}
 use Rattle.mmdb_value.specs.declared.any_value.Value.{Value, ind-Value}

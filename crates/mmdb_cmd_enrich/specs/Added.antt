@@ -1,44 +1,84 @@
--- What is added to a row: for each path a delimiter, and the text of the value to which it leads in the record of the
--- address in the row.
-use Rattle.std.specs.Prelude.{◌≡◌, ◌⊎◌, ℕ, List, [], ◌∷◌, ◌++◌, Option, Some, None, Bool, if◌then◌else◌}
+-- What is added to a row from databases, in the order in which they are asked.
+use Rattle.std.specs.Prelude.{◌≡◌, ◌⊎◌, ℕ, List, [], ◌++◌, Option, Some, None, Bool, true, false, ⊤}
+use Rattle.std.specs.Bool.{MatchBool}
 use Rattle.std.specs.declared.net.ip_addr.IpAddr.{IpAddr}
-use Rattle.mmdb_reader.specs.File.{Database, data_section}
-use Rattle.mmdb_reader.specs.Lookup.{CanAsk, IsInvalidAt, Answers, outcome_at}
-use Rattle.mmdb_reader.specs.declared.path.PathElement.{PathElement}
-use Rattle.mmdb_filter.specs.declared.rows.Rows.{Rows}
+use Rattle.mmdb_net.specs.declared.network.IpNetwork.{IpNetwork}
+use Rattle.mmdb_reader.specs.File.{Database}
 use Rattle.mmdb_filter.specs.declared.counts.Outcome.{Outcome}
-use Rattle.mmdb_filter.specs.declared.counts.Outcome.TheVariants.{Found, Absent, Unreadable, Failed}
-use Rattle.mmdb_addresses.specs.declared.readings.Reading.{Reading}
-use Rattle.mmdb_cmd_enrich.specs.Asked.{AsksForRow}
-use Rattle.mmdb_cmd_enrich.specs.Cells.{AreCells, blanks, are_read}
-use Rattle.mmdb_cmd_enrich.specs.Columns.{IsPadding}
-use Rattle.mmdb_layout.specs.Reading.{reads_in}
+use Rattle.mmdb_filter.specs.declared.counts.Outcome.TheVariants.{Absent, Unreadable, Failed}
+use Rattle.mmdb_cmd_enrich.specs.Layers.{CanAskAny, CanAskNone, AnyRejects, HaveAll, has_record}
+use Rattle.mmdb_cmd_enrich.specs.Networks.{IsShown}
+use Rattle.mmdb_cmd_enrich.specs.Template.{Template, ReadsBy, IsLead, IsFrontText, IsText, IsNoneText, IsRejectedText, IsUnreadText, shows_network, text_at}
+use Rattle.mmdb_cmd_enrich.specs.declared.place.RowPlace.{RowPlace}
+use Rattle.mmdb_cmd_enrich.specs.declared.place.ReadRow.{ReadRow}
+use Rattle.mmdb_cmd_enrich.specs.declared.place.ReadRow.TheVariants.{Passed, Place}
 
--- the cells of a record at an offset, or empty ones where there is none
-abbrev pub AddsAt : Database → Rows → List (List PathElement) → Option ℕ → List ℕ → Outcome → Type 0
-AddsAt db rows paths None extra outcome = (extra ≡ blanks rows paths) × (outcome ≡ Absent)
-AddsAt db rows paths (Some offset) extra outcome =
-    AreCells rows (reads_in (data_section db) (Some offset)) paths extra × (outcome ≡ (if are_read (reads_in (data_section db) (Some offset)) paths then Found else Failed))
+-- Bytes grow by a text at a place, and the row fares so.
+abbrev pub PutsAt : RowPlace → List ℕ → Outcome → Outcome → List ℕ → List ℕ → Type 0
+PutsAt place text outcome fares old new = (fares ≡ outcome) × (new ≡ old ++ text_at place.has_comma text)
 
--- empty cells, but none after an empty row
-abbrev pub blanks_after : List ℕ → List ℕ → List ℕ
-blanks_after [] cells = []
-blanks_after (x ∷ xs) cells = cells
+-- the text of the records at these offsets, or that where there is none
+abbrev pub AddsAt : Template → List Database → Option IpNetwork → List (Option ℕ) → List ℕ → Outcome → Type 0
+AddsAt template dbs shown offsets text outcome =
+    ((has_record offsets ≡ false) × IsNoneText template text × (outcome ≡ Absent))
+    ⊎ ((has_record offsets ≡ true) × IsText template dbs shown offsets text outcome)
 
--- those of the record of an address; empty ones where its lookup fails
-abbrev pub AddsFor : Database → Rows → List (List PathElement) → IpAddr → List ℕ → Outcome → Type 0
-AddsFor db rows paths address extra outcome =
-    ((¬ CanAsk db address ⊎ IsInvalidAt db address) × (extra ≡ blanks rows paths) × (outcome ≡ Failed))
-    ⊎ ((leaf : List Bool) × (offset : Option ℕ) × Answers db address leaf (outcome_at offset) × AddsAt db rows paths offset extra outcome)
+-- where the network of an address is shown, it is this one
+abbrev pub IsShownFor : Template → List Database → IpAddr → List (Option ℕ) → Option IpNetwork → Type 0
+IsShownFor template dbs address offsets shown = MatchBool (shows_network template) (IsShown dbs address (has_record offsets) shown) ⊤
 
--- the same where there is an address; empty cells where there is none
-abbrev pub AddsIfAny : Database → Rows → List (List PathElement) → List ℕ → Option IpAddr → List ℕ → Outcome → Type 0
-AddsIfAny db rows paths text None extra outcome = (extra ≡ blanks_after text (blanks rows paths)) × (outcome ≡ Unreadable)
-AddsIfAny db rows paths text (Some address) extra outcome = AddsFor db rows paths address extra outcome
+-- That of the records of an address, at these offsets, after what comes before it.
+abbrev pub AddsFound : Template → List Database → RowPlace → IpAddr → List (Option ℕ) → List ℕ → Outcome → Type 0
+AddsFound template dbs place address offsets extra outcome =
+    (shown : Option IpNetwork) × (front text : List ℕ) × IsShownFor template dbs address offsets shown × IsFrontText template shown front
+    × AddsAt template dbs shown offsets text outcome × (extra ≡ front ++ text_at place.has_comma text)
 
--- those of the address in the row, of which such a text is seen, that may go on, after the delimiters that it lacks where
--- the first row has so many
-abbrev pub AddsTo : Database → Rows → Reading → ℕ → Option ℕ → List (List PathElement) → List ℕ → Bool → List ℕ → Outcome → Type 0
-AddsTo db rows reading column breaks paths text goes_on extra outcome =
-    (asked : Option IpAddr) × (padding cells : List ℕ) × AsksForRow db rows reading column text goes_on asked
-    × IsPadding rows breaks text goes_on padding × AddsIfAny db rows paths text asked cells outcome × (extra ≡ padding ++ cells)
+-- What is added at a place for an address. Where no database can be asked for it, or the lookup fails in one of them, and where
+-- there is none, that is what such a row gets.
+abbrev pub AddsFor : Template → List Database → RowPlace → Option IpAddr → List ℕ → Outcome → Type 0
+AddsFor template dbs place None extra outcome = IsUnreadText template place extra × (outcome ≡ Unreadable)
+AddsFor template dbs place (Some address) extra outcome =
+    ((CanAskNone dbs address ⊎ AnyRejects dbs address) × IsRejectedText template extra × (outcome ≡ Failed))
+    ⊎ (CanAskAny dbs address × (offsets : List (Option ℕ)) × HaveAll dbs address offsets × AddsFound template dbs place address offsets extra outcome)
+
+-- what is added to a row that was read so, of which such a text is seen, that may go on, and how many bytes of the row follow it
+abbrev pub AddsRead : Template → List Database → List ℕ → Bool → ReadRow → Option IpAddr → List ℕ → ℕ → Outcome → Type 0
+AddsRead template dbs text goes_on (Passed fares) address extra behind outcome = (extra ≡ []) × (behind ≡ 0) × (outcome ≡ fares)
+AddsRead template dbs text goes_on (Place place) address extra behind outcome =
+    (lead more : List ℕ) × IsLead template text goes_on lead × AddsFor template dbs place address more outcome × (extra ≡ lead ++ more) × (behind ≡ place.behind)
+
+-- what is added to a row, of which such a text is seen, that may go on
+abbrev pub Adds : Template → List Database → List ℕ → Bool → List ℕ → ℕ → Outcome → Type 0
+Adds template dbs text goes_on extra behind outcome =
+    (read : ReadRow) × (address : Option IpAddr) × ReadsBy template text goes_on read address × AddsRead template dbs text goes_on read address extra behind outcome
+
+-- Bytes grow by what is added at a place for an address.
+abbrev pub PutsFor : Template → List Database → RowPlace → Option IpAddr → Outcome → List ℕ → List ℕ → Type 0
+PutsFor template dbs place address fares old new = (extra : List ℕ) × AddsFor template dbs place address extra fares × (new ≡ old ++ extra)
+
+-- Bytes grow by the text of records at these offsets, of an address in this network, at a place.
+abbrev pub PutsRecords : Template → List Database → RowPlace → Option IpNetwork → List (Option ℕ) → Outcome → List ℕ → List ℕ → Type 0
+PutsRecords template dbs place shown offsets fares old new =
+    (text : List ℕ) × (outcome : Outcome) × AddsAt template dbs shown offsets text outcome × PutsAt place text outcome fares old new
+
+-- Bytes grow by that, after what comes before it.
+abbrev pub PutsFound : Template → List Database → RowPlace → (Option IpNetwork → Type 0) → List (Option ℕ) → Outcome → List ℕ → List ℕ → Type 0
+PutsFound template dbs place shows offsets fares old new =
+    (shown : Option IpNetwork) × (front text : List ℕ) × MatchBool (shows_network template) (shows shown) ⊤ × IsFrontText template shown front
+    × AddsAt template dbs shown offsets text fares × (new ≡ old ++ (front ++ text_at place.has_comma text))
+
+-- Bytes grow by what comes before all that is added to a row.
+abbrev pub PutsLead : Template → List ℕ → Bool → List ℕ → List ℕ → Type 0
+PutsLead template text goes_on old new = (lead : List ℕ) × IsLead template text goes_on lead × (new ≡ old ++ lead)
+
+-- Bytes grow by what comes before the text of records.
+abbrev pub PutsFrontText : Template → Option IpNetwork → List ℕ → List ℕ → Type 0
+PutsFrontText template shown old new = (front : List ℕ) × IsFrontText template shown front × (new ≡ old ++ front)
+
+-- Bytes grow by what is added for an address that is rejected.
+abbrev pub PutsRejected : Template → List ℕ → List ℕ → Type 0
+PutsRejected template old new = (extra : List ℕ) × IsRejectedText template extra × (new ≡ old ++ extra)
+
+-- Bytes grow by what is added to a row without an address.
+abbrev pub PutsUnread : Template → RowPlace → List ℕ → List ℕ → Type 0
+PutsUnread template place old new = (extra : List ℕ) × IsUnreadText template place extra × (new ≡ old ++ extra)

@@ -1,5 +1,5 @@
 -- The address that a row has, and the one that a database is asked for.
-use Rattle.std.specs.Prelude.{◌≡◌, ◌≢◌, ◌⊎◌, ℕ, List, Option, Some, None, Bool, ⊤}
+use Rattle.std.specs.Prelude.{◌≡◌, ◌≢◌, ◌⊎◌, ℕ, List, Option, Some, None, Bool}
 use Rattle.std.specs.Net.Addr.{IsCanonicalOf}
 use Rattle.std.specs.declared.net.ip_addr.IpAddr.{IpAddr}
 use Rattle.std.specs.declared.net.ip_addr.IpAddr.TheVariants.{V4, V6}
@@ -43,15 +43,3 @@ Asks db (V6 address) asked =
     ((db.metadata.ip_version ≡ 4) × IsCanonicalOf address asked)
     ⊎ (((db.metadata.ip_version ≢ 4) × Lacks db (V6 address) × IsCanonicalOf address asked)
     ⊎ ((db.metadata.ip_version ≢ 4) × (IsCanonicalOf address (V6 address) ⊎ HasOrFails db (V6 address)) × (asked ≡ V6 address)))
-
--- the same where there is an address, and none where there is none
-abbrev pub AsksIfAny : Database → Option IpAddr → Option IpAddr → Type 0
-AsksIfAny db None None = ⊤
-AsksIfAny db None (Some asked) = ⊥
-AsksIfAny db (Some address) None = ⊥
-AsksIfAny db (Some address) (Some asked) = Asks db address asked
-
--- the address that a database is asked for a row
-abbrev pub AsksForRow : Database → Rows → Reading → ℕ → List ℕ → Bool → Option IpAddr → Type 0
-AsksForRow db rows reading column text goes_on asked =
-    (address : Option IpAddr) × ReadsRow rows reading column text goes_on address × AsksIfAny db address asked

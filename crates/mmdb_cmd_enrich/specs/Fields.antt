@@ -10,6 +10,10 @@ use Rattle.mmdb_json.specs.Shown.{Shows}
 use Rattle.mmdb_net.specs.Network.{short_text_of}
 use Rattle.mmdb_net.specs.declared.network.IpNetwork.{IpNetwork}
 use Rattle.mmdb_reader.specs.declared.path.PathElement.{PathElement}
+use Rattle.mmdb_filter.specs.declared.counts.Outcome.{Outcome}
+use Rattle.mmdb_filter.specs.declared.counts.Outcome.TheVariants.{Found, Failed}
+use Rattle.mmdb_cmd_enrich.specs.declared.members.MemberKind.{MemberKind}
+use Rattle.mmdb_cmd_enrich.specs.declared.members.MemberKind.TheVariants.{Fields, NetworkAndFields, Records}
 use Rattle.mmdb_cmd_enrich.specs.declared.members.NamedField.{NamedField}
 
 -- the tokens of what was read: of JSON that shows it, or `null` where nothing is there
@@ -63,15 +67,31 @@ abbrev pub IsMemberAfter : List Token → (List PathElement → Option (Option T
 IsMemberAfter front reads name fields text =
     (value : List Token) × AreValues front reads fields value × (text ≡ print (key name ∷ value)) × (tokens_read text ≡ key name ∷ value)
 
--- the same with fields alone
-abbrev pub IsMember : (List PathElement → Option (Option Tree)) → List ℕ → List NamedField → List ℕ → Type 0
-IsMember reads name fields text = IsMemberAfter [] reads name fields text
+-- the same, or none where a field, or what is read whole, can't be read
+abbrev pub MemberAfter : List Token → (List PathElement → Option (Option Tree)) → List ℕ → List NamedField → List ℕ → Outcome → Type 0
+MemberAfter front reads name fields text outcome =
+    (IsMemberAfter front reads name fields text × (outcome ≡ Found))
+    ⊎ (IsUnread reads fields × (text ≡ []) × (outcome ≡ Failed))
 
 -- the text of a member of which everything is null, after other members; a reader gets its tokens back
 abbrev pub IsNullMemberAfter : List Token → List ℕ → List NamedField → List ℕ → Type 0
 IsNullMemberAfter front name fields text =
     (text ≡ print (key name ∷ null_values front fields)) × (tokens_read text ≡ key name ∷ null_values front fields)
 
--- the same with fields alone
-abbrev pub IsNullMember : List ℕ → List NamedField → List ℕ → Type 0
-IsNullMember name fields text = IsNullMemberAfter [] name fields text
+-- the members before the fields: none, or that of a network
+abbrev pub front_tokens : MemberKind → Option IpNetwork → List Token
+front_tokens Fields shown = []
+front_tokens NetworkAndFields shown = network_tokens shown
+front_tokens Records shown = []
+
+-- the fields that are null without a record: none where the records are wanted, since all of the member is null then
+abbrev pub nulls_of : MemberKind → List NamedField → List NamedField
+nulls_of Fields fields = fields
+nulls_of NetworkAndFields fields = fields
+nulls_of Records fields = []
+
+-- what fields are read in: the first record that has a value at a path, or each record
+abbrev pub reads_of_kind : MemberKind → (List PathElement → Option (Option Tree)) → (List PathElement → Option (Option Tree)) → List PathElement → Option (Option Tree)
+reads_of_kind Fields first each = first
+reads_of_kind NetworkAndFields first each = first
+reads_of_kind Records first each = each

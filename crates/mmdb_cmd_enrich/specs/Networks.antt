@@ -49,6 +49,11 @@ smallest (network ∷ networks) = smaller network (smallest networks)
 abbrev pub shown_of : Bool → List (Option IpNetwork) → Option IpNetwork
 shown_of has_record networks = if has_record then smallest networks else None
 
+-- the network that is shown of an address
+abbrev pub IsShown : List Database → IpAddr → Bool → Option IpNetwork → Type 0
+IsShown dbs address has_record shown =
+    (networks : List (Option IpNetwork)) × HaveNetworks dbs address networks × (shown ≡ shown_of has_record networks)
+
 -- the cell of the text of a network, and an empty one where there is none
 abbrev pub IsNetworkCell : Rows → Option IpNetwork → List ℕ → Type 0
 IsNetworkCell rows None cell = cell ≡ []
@@ -57,12 +62,6 @@ IsNetworkCell rows (Some network) cell = ShowsCell rows (scalar (text (short_tex
 -- a delimiter and the cell of a network
 abbrev pub IsFront : Rows → Option IpNetwork → List ℕ → Type 0
 IsFront rows network front = (cell : List ℕ) × (front ≡ delimiter_of rows ∷ cell) × IsNetworkCell rows network cell
-
--- What comes before the fields: nothing, or, where the network is wanted, the network of an address.
-abbrev pub AddsFront : List Database → Bool → Rows → IpAddr → Bool → List ℕ → Type 0
-AddsFront dbs false rows address has_record front = front ≡ []
-AddsFront dbs true rows address has_record front =
-    (networks : List (Option IpNetwork)) × HaveNetworks dbs address networks × IsFront rows (shown_of has_record networks) front
 
 -- a delimiter for the network, where it is wanted, and one for each path
 abbrev pub all_blanks : Bool → Rows → List (List PathElement) → List ℕ

@@ -1,12 +1,10 @@
--- What is remembered from row to row: of each record that is kept what is wanted of it, and of the rows ahead where the
--- walks of their addresses end in this database.
+-- What is remembered from row to row: of records that are kept what is wanted of them, and the text where there is none.
+use Rattle.std.specs.Prelude.{List}
 use Rattle.mmdb_reader.specs.File.{Database}
-use Rattle.mmdb_addresses.specs.declared.readings.Reading.{Reading}
-use Rattle.mmdb_cmd_enrich.specs.Ahead.{IsAhead}
 use Rattle.mmdb_cmd_enrich.specs.Kept.{AreKept}
-use Rattle.mmdb_cmd_enrich.specs.Wanted.{Wanted}
-use Rattle.mmdb_cmd_enrich.specs.declared.row_memory.RowMemory.{RowMemory}
+use Rattle.mmdb_cmd_enrich.specs.Template.{Template, IsNoneText}
+use Rattle.mmdb_cmd_enrich.specs.declared.memory.KeptTexts.{KeptTexts}
 
-pub record Remembers (db : Database) (reading : Reading) (wanted : Wanted) (memory : RowMemory) : Type 0 where
-  pub kept : AreKept wanted memory.cache
-  pub ahead : IsAhead db reading memory.ahead
+pub record Remembers (template : Template) (dbs : List Database) (kept_texts : KeptTexts) : Type 0 where
+  pub kept : AreKept (record { template = template; databases = dbs }) kept_texts.cache
+  pub none : IsNoneText template kept_texts.none.items

@@ -1,62 +1,58 @@
-//! The addresses of the rows ahead, and where their walks end.
-ghost use Rattle.std.specs.Prelude.{◌≡◌, ◌+◌, ◌<◌, ◌≤◌, IfSome, None, Some, length, option_map};
-ghost use Rattle.mmdb_reader.specs.File.{Database};
-ghost use Rattle.mmdb_reader.specs.Many.{IsFoundFor};
-ghost use Rattle.mmdb_cmd_enrich.specs.Ahead.{AreFound, AreSpelled, IsAhead};
+//! The addresses of the rows ahead.
+ghost use Rattle.std.specs.Prelude.{◌≡◌, ◌+◌, ◌<◌, ◌≤◌, IfSome, Some, []};
 ghost use Rattle.mmdb_addresses.specs.Addresses.{ReadsAddress};
 ghost use Rattle.mmdb_addresses.specs.declared.readings.Reading.{Reading as SpecReading};
+ghost use Rattle.mmdb_cmd_enrich.specs.Ahead.{AreSpelled, IsAhead, IsNumberOf, IsNumbered, ahead_of};
 
 use crate::parts::part_of;
 use mmdb_addresses::{AddressText, Reading, address_in};
 use mmdb_filter::{Rows, first_row};
-use mmdb_reader::{FoundLeaf, Reader};
-use std::convert::AsSlice;
 use std::net::{IpAddr, Ipv4Addr};
 
 /// Of how many rows addresses are remembered.
 const MOST: usize = 64;
 
-/// An address in a text, and where its walk ends if that was found before.
+/// An address in a text, and its number among those ahead, if it is one of them.
 #[derive(Clone, Copy)]
-pub(crate) struct Asked {
+pub(crate) struct AheadAddress {
     pub(crate) address: IpAddr,
-    pub(crate) leaf: Option<FoundLeaf>,
+    pub(crate) number: Option<usize>,
 }
 
-/// The addresses that rows ahead have, each with its text and where its walk ends, in their order.
+/// An address in a row, and its number among those ahead, if it is one of them.
+#[derive(Clone, Copy)]
+pub(crate) struct NumberedAddress<'r> {
+    pub(crate) address: &'r IpAddr,
+    pub(crate) number: Option<usize>,
+}
+
+/// The address that a row has, if any, and its number among those ahead, if it is one of them.
+#[derive(Clone, Copy)]
+pub struct RowAddress {
+    pub address: Option<IpAddr>,
+    pub number: Option<usize>,
+}
+
+/// The addresses that rows ahead have, each with its text, in their order.
 #[derive(Drop)]
 pub struct Ahead {
     texts: [AddressText; MOST],
     addresses: [IpAddr; MOST],
-    leaves: [FoundLeaf; MOST],
     /// How many there are.
     count: usize,
     /// How many of them were passed.
     next: usize,
 }
 
-// Where the walks of addresses end, in the first of as many leaves or more.
-fn find_first<S: AsSlice<u8> + Drop>(
-    reader: &Reader<S>,
-    addresses: &[IpAddr],
-    leaves: &mut [FoundLeaf],
-)
-    requires { length addresses.now ≤ length leaves.old }
-    ensures length { length leaves.new ≡ length leaves.old }
-    ensures found { AreFound reader.now addresses.now leaves.new (length addresses.now) }
-{
-    reader.find_leaves(addresses, &mut leaves[..addresses.len()]);
-}
-
 impl Ahead {
     /// Of no row.
-    pub(crate) fn new() -> Ahead
-        ensures { (db : Database) (reading : SpecReading) → IsAhead db reading result }
+    pub fn new() -> Ahead
+        ensures is { (reading : SpecReading) → IsAhead reading result }
+        ensures none { ahead_of result ≡ [] }
     {
         Ahead {
             texts: [AddressText::none(); MOST],
             addresses: [IpAddr::V4(Ipv4Addr::UNSPECIFIED); MOST],
-            leaves: [FoundLeaf::default(); MOST],
             count: 0,
             next: 0,
         }
@@ -120,30 +116,20 @@ impl Ahead {
         count
     }
 
-    // Finds where the walks of the first addresses end, and has these ahead.
-    fn find<S: AsSlice<u8> + Drop>(&mut self, reader: &Reader<S>, reading: Reading, count: usize)
-        requires few { count ≤ 64 }
-        requires spelled { AreSpelled reading self.old.texts self.old.addresses count }
-        ensures { IsAhead reader.now reading self.new }
+    /// Remembers the addresses that the first rows of some bytes have in a column.
+    pub(crate) fn look(&mut self, rows: Rows, reading: Reading, column: usize, bytes: &[u8])
+        ensures { IsAhead reading self.new }
     {
-        find_first(reader, &self.addresses[..count], &mut self.leaves);
-        self.count = count;
+        self.count = self.note_rows(rows, reading, column, bytes);
         self.next = 0;
     }
 
-    /// Remembers the addresses that the first rows of some bytes have in a column, and finds where their walks end.
-    pub(crate) fn look<S: AsSlice<u8> + Drop>(
-        &mut self,
-        reader: &Reader<S>,
-        rows: Rows,
-        reading: Reading,
-        column: usize,
-        bytes: &[u8],
-    )
-        ensures { IsAhead reader.now reading self.new }
+    /// The addresses.
+    pub(crate) fn addresses(&self) -> &[IpAddr]
+        requires { self.now.count ≤ 64 }
+        ensures { result.now ≡ ahead_of self.now }
     {
-        let count = self.note_rows(rows, reading, column, bytes);
-        self.find(reader, reading, count);
+        &self.addresses[..self.count]
     }
 
     /// Whether an address is ahead.
@@ -152,46 +138,43 @@ impl Ahead {
         self.next < self.count
     }
 
-    // Where the walk of the next address ends, if this is its text; then it is passed.
+    // The next address, if this is its text; then it is passed.
     #[inline(always)]
-    fn next(&mut self, reading: Reading, text: &[u8]) -> Option<Asked>
-        requires few { self.old.count ≤ 64 }
-        ensures spelled { (db : Database) → IsAhead db reading self.old
-            → IfSome result (λ asked. ReadsAddress reading (Some text.now) (Some asked.address)) }
-        ensures found { (db : Database) → IsAhead db reading self.old
-            → IfSome result (λ asked. IfSome asked.leaf (IsFoundFor db asked.address)) }
-        ensures kept { (db : Database) → IsAhead db reading self.old → IsAhead db reading self.new }
+    fn next(&mut self, reading: Reading, text: &[u8]) -> Option<AheadAddress>
+        requires { IsAhead reading self.old }
+        ensures spelled { IfSome result (λ found.
+            ReadsAddress reading (Some text.now) (Some found.address)) }
+        ensures number { IfSome result (λ found.
+            IsNumberOf (ahead_of self.old) found.number found.address) }
+        ensures is { IsAhead reading self.new }
+        ensures same { ahead_of self.new ≡ ahead_of self.old }
     {
         let at = self.next;
         if at >= self.count || self.texts[at].as_slice() != text {
             return None;
         }
         self.next = at + 1;
-        Some(Asked {
+        Some(AheadAddress {
             address: self.addresses[at],
-            leaf: Some(self.leaves[at]),
+            number: Some(at),
         })
     }
 
-    /// The address in a text, and where its walk ends if it is the next one ahead.
+    /// The address in a text, and its number if it is the next one ahead.
     #[inline(always)]
-    pub(crate) fn read(&mut self, reading: Reading, text: &[u8]) -> Option<Asked>
-        requires few { self.old.count ≤ 64 }
-        ensures spelled { (db : Database) → IsAhead db reading self.old
-            → ReadsAddress reading (Some text.now) (option_map (λ asked. asked.address) result) }
-        ensures found { (db : Database) → IsAhead db reading self.old
-            → IfSome result (λ asked. IfSome asked.leaf (IsFoundFor db asked.address)) }
-        ensures kept { (db : Database) → IsAhead db reading self.old → IsAhead db reading self.new }
+    pub(crate) fn read(&mut self, reading: Reading, text: &[u8], row: &mut RowAddress)
+        requires { IsAhead reading self.old }
+        ensures spelled { ReadsAddress reading (Some text.now) row.new.address }
+        ensures number { IsNumbered (ahead_of self.old) row.new }
+        ensures is { IsAhead reading self.new }
+        ensures same { ahead_of self.new ≡ ahead_of self.old }
     {
-        if let Some(asked) = self.next(reading, text) {
-            return Some(asked);
+        if let Some(found) = self.next(reading, text) {
+            row.address = Some(found.address);
+            row.number = found.number;
+            return;
         }
-        match address_in(reading, text) {
-            Some(address) => Some(Asked {
-                address,
-                leaf: None,
-            }),
-            None => None,
-        }
+        row.address = address_in(reading, text);
+        row.number = None;
     }
 }

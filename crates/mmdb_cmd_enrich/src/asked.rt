@@ -1,12 +1,9 @@
-//! The address that a row has, and the one that a database is asked for.
+//! The address that a database is asked for.
 ghost use Rattle.std.specs.Prelude.{◌≡◌, ◌≢◌, false};
 ghost use Rattle.std.specs.declared.net.ip_addr.IpAddr.TheVariants.{V6};
 ghost use Rattle.std.specs.Net.Addr.{IsCanonicalOf};
-ghost use Rattle.mmdb_cmd_enrich.specs.Asked.{Asks, ReadsRow};
+ghost use Rattle.mmdb_cmd_enrich.specs.Asked.{Asks};
 
-use crate::parts::part_of;
-use mmdb_addresses::{Reading, address_anywhere, address_of, last_address_anywhere};
-use mmdb_filter::Rows;
 use mmdb_reader::Reader;
 use std::convert::AsSlice;
 use std::net::{IpAddr, Ipv6Addr};
@@ -57,26 +54,5 @@ pub(crate) fn asked_of<S: AsSlice<u8> + Drop>(reader: &Reader<S>, address: IpAdd
         IpAddr::V6(long) if reader.metadata().ip_version == IPV4 => canonical_of(long),
         IpAddr::V6(long) if may_be_mapped(long) => mapped_asked(reader, long),
         other => other,
-    }
-}
-
-/// The address in a row: in a column, or the first or the last one anywhere.
-#[inline(always)]
-pub(crate) fn row_address(
-    rows: Rows,
-    reading: Reading,
-    column: usize,
-    text: &[u8],
-    is_long: bool,
-) -> Option<IpAddr>
-    ensures { ReadsRow rows reading column text.now is_long result }
-{
-    match reading {
-        Reading::Anywhere => address_anywhere(text, is_long),
-        Reading::LastAnywhere => last_address_anywhere(text, is_long),
-        _ => address_of(
-            reading,
-            part_of(rows, reading, text, is_long, column, false),
-        ),
     }
 }

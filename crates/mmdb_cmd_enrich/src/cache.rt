@@ -201,16 +201,6 @@ impl AddedCache {
         });
     }
 
-    /// Keeps the cells of a record, if that is wanted, unless they are many or there is no memory.
-    pub(crate) fn keep(&mut self, offset: usize, cells: &[u8], outcome: Outcome, is_wanted: bool)
-        ensures { (wanted : Wanted) → AreKept wanted self.old
-            → AddsOf wanted offset cells.now outcome → AreKept wanted self.new }
-    {
-        if is_wanted {
-            self.put(offset, cells, outcome);
-        }
-    }
-
     /// Notes that the cells of records that have a number were found.
     #[inline(always)]
     pub(crate) fn note_found(&mut self)

@@ -1,26 +1,21 @@
 //! The cells of a record.
-ghost use Rattle.std.specs.Prelude.{◌≡◌, ◌<◌, ◌++◌, List, Option, Some, true, false, IfOk, OnOk, map};
+ghost use Rattle.std.specs.Prelude.{◌≡◌, ◌<◌, ◌++◌, Option, false, IfOk, OnOk, map};
 ghost use Rattle.std.specs.Char.{digit_char};
-ghost use Rattle.std.specs.List.{slice_get};
 ghost use Rattle.mmdb_filter.specs.Cells.{csv_cell};
 ghost use Rattle.mmdb_filter.specs.declared.rows.Rows.TheVariants.{Lines, Csv};
 ghost use Rattle.mmdb_format.specs.Contents.{text as text_content};
 ghost use Rattle.mmdb_format.specs.Unfolding.{Tree, scalar};
 ghost use Rattle.mmdb_net.specs.Network.{short_text_of};
-ghost use Rattle.mmdb_reader.specs.declared.path.PathElement.{PathElement as SpecPathElement};
 ghost use Rattle.mmdb_value.specs.Values.{value_tree};
 ghost use Rattle.mmdb_cmd_enrich.specs.Cells.{is_plain as spec_is_plain, blanks, escape_letter, escape_of, escaped};
-ghost use Rattle.mmdb_cmd_enrich.specs.KeptReads.{said};
-ghost use Rattle.mmdb_cmd_enrich.specs.Networks.{all_blanks};
 ghost use Rattle.mmdb_cmd_enrich.specs.Working.{PutsShown, PutsCompact, PutsCell, PutsNextCell, PutsCells, PutsFront, PutsJson};
 ghost use Rattle.mmdb_layout.specs.Reading.{IsReadAs};
 
 use crate::columns::delimiter_of;
-use crate::kept_reads::KeptRead;
-use crate::read_fields::{FieldPlace, ReadFields};
 use json::Writer;
 use mmdb_filter::{Rows, put_csv_cell};
 use mmdb_json::{compact, write_value};
+use mmdb_layout::ReadAlong;
 use mmdb_net::IpNetwork;
 use mmdb_reader::{MaxMindDbError, PathElement};
 use mmdb_value::Value;
@@ -265,106 +260,36 @@ fn put_read(
     }
 }
 
-// Adds the cell of what is kept and no text.
-#[inline(never)]
-fn put_kept_value(
+// Adds a delimiter and the cell of what is read along a path, and says whether nothing failed.
+fn put_cell<A: ReadAlong>(
     alloc: Global,
     rows: Rows,
-    read: KeptRead<'_>,
-    out: &mut Vec<u8>,
-) -> Result<(), AllocError>
-    ensures { OnOk result ((answer : Option Tree) → said read.entry ≡ Some answer
-        → PutsCell rows (Some answer) true out.old.items out.new.items) }
-{
-    match &read.read() {
-        Some(Some(value)) => put_value(alloc, rows, value, out),
-        _ => Ok(()),
-    }
-}
-
-// Adds the cell of what is kept.
-#[inline(always)]
-fn put_kept(
-    alloc: Global,
-    rows: Rows,
-    read: KeptRead<'_>,
-    out: &mut Vec<u8>,
-) -> Result<(), AllocError>
-    ensures { OnOk result ((answer : Option Tree) → said read.entry ≡ Some answer
-        → PutsCell rows (Some answer) true out.old.items out.new.items) }
-{
-    match read {
-        KeptRead::Text(text) => put_text(alloc, rows, text, out),
-        other => put_kept_value(alloc, rows, other, out),
-    }
-}
-
-// Reads a field, by its number and its path, in the records from a number on, adds its cell, and says whether nothing failed.
-#[inline(never)]
-fn put_from<'a, R: ReadFields<'a>>(
-    alloc: Global,
-    rows: Rows,
-    found: &R,
-    kept: &mut R::Kept,
-    from: usize,
-    field: usize,
+    found: &A,
     path: &[PathElement<'_>],
     out: &mut Vec<u8>,
 ) -> Result<bool, AllocError>
-    ensures cell { IfOk result (λ read. (paths : List (List SpecPathElement))
-        → slice_get paths field ≡ Some path.now → R.keeps found.now paths kept.old
-        → PutsCell rows (R.reads found.now from path.now) read out.old.items out.new.items) }
-    ensures kept { (paths : List (List SpecPathElement)) → slice_get paths field ≡ Some path.now
-        → R.keeps found.now paths kept.old → R.keeps found.now paths kept.new }
+    ensures { IfOk result (λ read. PutsNextCell rows (A.reads found.now path.now) read
+        out.old.items out.new.items) }
 {
-    let read = found.read_field(alloc, kept, from, field, path);
+    out.push(delimiter_of(rows))?;
+    let read = found.read_along(alloc, path);
     put_read(alloc, rows, &read, out)
 }
 
-// Adds a delimiter and the cell of a field, by its number and its path, and says whether nothing failed.
-fn put_cell<'a, R: ReadFields<'a>>(
-    alloc: Global,
-    rows: Rows,
-    found: &R,
-    kept: &mut R::Kept,
-    field: usize,
-    path: &[PathElement<'_>],
-    out: &mut Vec<u8>,
-) -> Result<bool, AllocError>
-    ensures cell { IfOk result (λ read. (paths : List (List SpecPathElement))
-        → slice_get paths field ≡ Some path.now → R.keeps found.now paths kept.old
-        → PutsNextCell rows (R.reads found.now 0 path.now) read out.old.items out.new.items) }
-    ensures kept { (paths : List (List SpecPathElement)) → slice_get paths field ≡ Some path.now
-        → R.keeps found.now paths kept.old → R.keeps found.now paths kept.new }
-{
-    out.push(delimiter_of(rows))?;
-    match found.place_of(kept, field) {
-        FieldPlace::Kept(read) => {
-            put_kept(alloc, rows, read, out)?;
-            Ok(true)
-        }
-        FieldPlace::Nowhere => Ok(true),
-        FieldPlace::From(from) => put_from(alloc, rows, found, kept, from, field, path, out),
-    }
-}
-
 /// Adds a delimiter and a cell for each path, and says whether nothing failed.
-pub(crate) fn put_cells<'a, R: ReadFields<'a>>(
+pub(crate) fn put_cells<A: ReadAlong>(
     alloc: Global,
     rows: Rows,
-    found: &R,
-    kept: &mut R::Kept,
+    found: &A,
     paths: &[Vec<PathElement<'_>>],
     out: &mut Vec<u8>,
 ) -> Result<bool, AllocError>
-    requires { R.keeps found.now (map (λ path. path.items) paths.now) kept.old }
-    ensures cells { IfOk result (λ read. PutsCells rows (R.reads found.now 0)
+    ensures { IfOk result (λ read. PutsCells rows (A.reads found.now)
         (map (λ path. path.items) paths.now) read out.old.items out.new.items) }
-    ensures kept { R.keeps found.now (map (λ path. path.items) paths.now) kept.new }
 {
     let mut are_read = true;
     for at in 0..paths.len() {
-        let is_read = put_cell(alloc, rows, found, kept, at, paths[at].as_slice(), out)?;
+        let is_read = put_cell(alloc, rows, found, paths[at].as_slice(), out)?;
         are_read &= is_read;
     }
     Ok(are_read)
@@ -383,20 +308,4 @@ pub(crate) fn put_blanks(
         out.push(delimiter_of(rows))?;
     }
     Ok(())
-}
-
-/// Adds a delimiter for the network, where it is wanted, and one for each path.
-pub(crate) fn put_all_blanks(
-    network: bool,
-    rows: Rows,
-    paths: &[Vec<PathElement<'_>>],
-    out: &mut Vec<u8>,
-) -> Result<(), AllocError>
-    ensures { OnOk result (out.new.items
-        ≡ out.old.items ++ all_blanks network rows (map (λ path. path.items) paths.now)) }
-{
-    if network {
-        out.push(delimiter_of(rows))?;
-    }
-    put_blanks(rows, paths, out)
 }

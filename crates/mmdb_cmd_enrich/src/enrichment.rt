@@ -1,339 +1,457 @@
 //! What is added to a row.
-ghost use Rattle.std.specs.Prelude.{◌≡◌, ◌++◌, ◌⊎◌, ◌↔◌, Some, None, IfOk, IfErr, IfSome, option_map, if◌then◌else◌};
-ghost use Rattle.mmdb_filter.specs.declared.counts.Outcome.TheVariants.{Found, Failed, Unreadable};
-ghost use Rattle.mmdb_format.specs.Error.{OfDatabase, OfInput, kind_of, FailsAs};
-ghost use Rattle.mmdb_reader.specs.Lookup.{CanAsk, Answers, IsInvalidAt, outcome_at};
-ghost use Rattle.mmdb_reader.specs.Many.{IsFoundFor};
-ghost use Rattle.mmdb_filter.specs.Lines.{most_seen};
-ghost use Rattle.mmdb_cmd_enrich.specs.Added.{AddsTo, blanks_after};
-ghost use Rattle.mmdb_cmd_enrich.specs.Ahead.{IsAhead};
-ghost use Rattle.mmdb_cmd_enrich.specs.Asked.{Asks, AsksForRow, ReadsRow, cell_read};
-ghost use Rattle.mmdb_addresses.specs.Addresses.{ReadsAddress};
-ghost use Rattle.mmdb_cmd_enrich.specs.Cells.{blanks};
-ghost use Rattle.mmdb_cmd_enrich.specs.Rows.{paths_of, AreKeptFor};
+ghost use Rattle.std.specs.Prelude.{◌≡◌, ◌++◌, ℕ, List, Option, IfOk, Some, true, false};
+ghost use Rattle.std.specs.declared.net.ip_addr.IpAddr.{IpAddr as SpecIpAddr};
+ghost use Rattle.mmdb_net.specs.declared.network.IpNetwork.{IpNetwork as SpecIpNetwork};
+ghost use Rattle.mmdb_filter.specs.Lines.{StandsBehind};
+ghost use Rattle.mmdb_filter.specs.declared.counts.Outcome.TheVariants.{Failed, Unreadable};
+ghost use Rattle.mmdb_cmd_enrich.specs.Added.{Adds, AddsAt, PutsFor, PutsFound, PutsRecords, PutsRejected, PutsUnread};
+ghost use Rattle.mmdb_cmd_enrich.specs.Ahead.{IsNumberOf, IsNumbered};
+ghost use Rattle.mmdb_cmd_enrich.specs.Layers.{has_record as spec_has_record};
+ghost use Rattle.mmdb_cmd_enrich.specs.Remembers.{Remembers};
+ghost use Rattle.mmdb_cmd_enrich.specs.Template.{is_kept as spec_is_kept};
 
-use crate::ahead::{Ahead, Asked};
-use crate::asked::asked_of;
-use crate::cache::{AddedCache, KeptRecord};
-use crate::cells::{put_blanks, put_cells};
-use crate::notes::{Notes, note_rejected};
-use crate::padding::put_missing;
-use crate::parts::part_of;
-use crate::row_memory::RowMemory;
-use mmdb_addresses::{Reading, address_anywhere, last_address_anywhere};
-use mmdb_filter::{Added, Additions, MOST_SEEN, Outcome, Rows};
-use mmdb_reader::{LookupResult, MaxMindDbError, PathElement, Reader};
+use crate::ahead::{AheadAddress, NumberedAddress, RowAddress};
+use crate::ask::Ask;
+use crate::cache::{AddedCache, Keeping};
+use crate::found::FoundRecords;
+use crate::memory::{EnrichMemory, KeptTexts};
+use crate::notes::Notes;
+use crate::place::{ReadRow, RowPlace, put_at, put_text};
+use crate::template::Template;
+use mmdb_filter::{Added, Additions, Outcome};
+use mmdb_net::IpNetwork;
 use std::alloc::{AllocError, Global};
-use std::convert::AsSlice;
 use std::net::IpAddr;
 
-/// Fields of the record of the address in a column, as columns after each row.
+/// What a template adds to rows of what databases have for their addresses.
 #[derive(Drop)]
-pub struct Enrichment<'a, 'f, S: AsSlice<u8> + Drop> {
+pub struct Enrichment<D, W> {
     pub alloc: Global,
     /// Where addresses are looked up.
-    pub reader: &'a Reader<S>,
-    /// What is enriched: lines or rows of CSV.
-    pub rows: Rows,
-    /// Where in a cell the address is, or that it is anywhere in a row.
-    pub reading: Reading,
-    /// The column of the address, from 0.
-    pub column: usize,
-    /// How many delimiters the first row has, where it names the columns.
-    pub breaks: Option<usize>,
-    /// The paths of the fields.
-    pub paths: Vec<Vec<PathElement<'f>>>,
+    pub from: D,
+    /// What is added.
+    pub what: W,
 }
 
-/// How a row fares whose record was found.
-pub(crate) fn outcome_of(are_read: bool) -> Outcome
-    ensures { result ≡ (if are_read then Found else Failed) }
-{
-    if are_read {
-        Outcome::Found
-    } else {
-        Outcome::Failed
+impl<D: Ask, W: Template> Enrichment<D, W> {
+    /// A memory of no row, with what is noted of records that were read before. It takes memory for the texts of records at once.
+    pub fn memory(&self, notes: Notes) -> Result<EnrichMemory<D::Room, W::Scratch>, AllocError>
+        ensures texts { IfOk result (λ memory.
+            Remembers (W.template self.now.what) (D.databases self.now.from) memory.kept) }
+        ensures scratch { IfOk result (λ memory. W.fits self.now.what memory.scratch) }
+        ensures room { IfOk result (λ memory.
+            D.knows self.now.from memory.room (W.ahead memory.scratch)) }
+    {
+        let none = self.what.none_text(self.alloc)?;
+        let kept = KeptTexts {
+            cache: AddedCache::new(self.alloc)?,
+            none,
+            text: Vec::new(self.alloc),
+            notes,
+        };
+        Ok(EnrichMemory {
+            kept,
+            room: self.from.new_room(self.alloc),
+            scratch: self.what.new_scratch(self.alloc),
+        })
     }
-}
 
-// An address of which it is not known where its walk ends.
-#[inline(always)]
-fn without_leaf(address: Option<IpAddr>) -> Option<Asked>
-    ensures spelled { option_map (λ asked. asked.address) result ≡ address }
-    ensures found { IfSome result (λ asked. asked.leaf ≡ None) }
-{
-    match address {
-        Some(address) => Some(Asked {
-            address,
-            leaf: None,
-        }),
-        None => None,
-    }
-}
-
-// What a database is asked for an address: of IPv4 for itself, so that where its walk ends stays known.
-#[inline(always)]
-fn as_asked<S: AsSlice<u8> + Drop>(reader: &Reader<S>, read: Asked) -> Asked
-    requires found { IfSome read.leaf (IsFoundFor reader.now read.address) }
-    ensures asked { Asks reader.now read.address result.address }
-    ensures found { IfSome result.leaf (IsFoundFor reader.now result.address) }
-{
-    match read.address {
-        IpAddr::V4(_) => read,
-        IpAddr::V6(_) => Asked {
-            address: asked_of(reader, read.address),
-            leaf: None,
-        },
-    }
-}
-
-/// Adds cells that are kept.
-#[inline(always)]
-pub(crate) fn put_kept(kept: KeptRecord<'_>, out: &mut Vec<u8>) -> Result<Outcome, AllocError>
-    ensures { IfOk result (λ outcome. (outcome ≡ kept.entry.outcome)
-        × (out.new.items ≡ out.old.items ++ kept.entry.cells.now)) }
-{
-    out.extend_from_slice(kept.cells)?;
-    Ok(kept.outcome)
-}
-
-impl<'a, 'f, S: AsSlice<u8> + Drop> Enrichment<'a, 'f, S> {
-    ghost use Rattle.mmdb_reader.specs.Found.{database_asked, leaf_of, offset_found};
-    ghost use Rattle.mmdb_cmd_enrich.specs.Working.{AddsAtTo, AddsForTo, AddsRowTo};
-
-    // Notes a record that was read, or was not.
-    #[inline(never)]
-    fn note(&self, found: &LookupResult<'_, S>, offset: usize, are_read: bool, notes: &mut Notes) {
-        notes.note_record(0, offset);
-        for at in 0..self.paths.len() {
-            let path = self.paths[at].as_slice();
-            notes.note_field(self.alloc, found, at, path, are_read);
+    // Notes the records that were read, or were not, until all is noted.
+    #[inline(always)]
+    fn note(&self, found: &D::Found, are_read: bool, notes: &mut Notes) {
+        if !are_read || !notes.are_full(self.what.count()) {
+            self.note_more(found, are_read, notes);
         }
     }
 
-    // Adds the cells of a record that was not kept, and keeps them, unless it can't be read and rows with such records are
-    // still named.
+    // Notes the records that were read, or were not.
     #[inline(never)]
-    fn put_record(
+    fn note_more(&self, found: &D::Found, are_read: bool, notes: &mut Notes) {
+        found.note_records(notes);
+        self.what.note(self.alloc, found, are_read, notes);
+    }
+
+    // Keeps the text of records that was made, where it may be kept, unless one can't be read and rows with such records are still
+    // named.
+    #[inline(always)]
+    fn keep(&self, found: &D::Found, outcome: Outcome, texts: &mut KeptTexts)
+        requires of { D.Found.is_of found.now (D.databases self.now.from) }
+        requires made { spec_is_kept (W.template self.now.what) ≡ true
+            → (shown : Option SpecIpNetwork) → AddsAt (W.template self.now.what)
+            (D.databases self.now.from) shown (D.Found.offsets found.now)
+            texts.old.text.items outcome }
+        requires fits { Remembers (W.template self.now.what) (D.databases self.now.from)
+            texts.old }
+        ensures same { texts.new.text ≡ texts.old.text }
+        ensures fits { Remembers (W.template self.now.what) (D.databases self.now.from)
+            texts.new }
+    {
+        if !self.what.is_kept() {
+            return;
+        }
+        let are_read = outcome == Outcome::Found;
+        let keeping = texts.notes.keeping(self.what.count(), are_read);
+        texts
+            .cache
+            .keep_numbered(found.key(), texts.text.as_slice(), outcome, keeping);
+    }
+
+    // Adds the text of records that was not kept, and keeps it.
+    #[inline(never)]
+    fn put_records(
         &self,
-        found: &LookupResult<'_, S>,
-        offset: usize,
-        cache: &mut AddedCache,
-        notes: &mut Notes,
+        place: RowPlace,
+        found: &D::Found,
+        network: Option<IpNetwork>,
+        texts: &mut KeptTexts,
         out: &mut Vec<u8>,
     ) -> Result<Outcome, AllocError>
-        requires at { offset_found found.now ≡ Some offset }
-        requires asked { database_asked found.now ≡ self.now.reader.now }
-        requires kept { AreKeptFor self.now.reader.now self.now.rows self.now.paths cache.old }
-        ensures added { IfOk result (λ outcome. AddsAtTo self.now.reader.now self.now.rows
-            self.now.paths (Some offset) outcome out.old out.new) }
-        ensures kept { AreKeptFor self.now.reader.now self.now.rows self.now.paths cache.new }
+        requires of { D.Found.is_of found.now (D.databases self.now.from) }
+        requires there { spec_has_record (D.Found.offsets found.now) ≡ true }
+        requires fits { Remembers (W.template self.now.what) (D.databases self.now.from)
+            texts.old }
+        ensures added { IfOk result (λ fares. PutsRecords (W.template self.now.what)
+            (D.databases self.now.from) place network (D.Found.offsets found.now) fares
+            out.old.items out.new.items) }
+        ensures fits { Remembers (W.template self.now.what) (D.databases self.now.from)
+            texts.new }
     {
-        let before = out.len();
-        let paths = self.paths.as_slice();
-        let are_read = put_cells(self.alloc, self.rows, found, &mut (), paths, out)?;
-        let outcome = outcome_of(are_read);
-        let is_said = notes.is_said(are_read);
-        cache.keep(offset, &out.as_slice()[before..], outcome, is_said);
-        self.note(found, offset, are_read, notes);
-        Ok(outcome)
+        texts.text.clear();
+        let outcome = self
+            .what
+            .put_text(self.alloc, found, network, &mut texts.text)?;
+        self.keep(found, outcome, texts);
+        self.note(found, outcome == Outcome::Found, &mut texts.notes);
+        put_at(place, texts.text.as_slice(), outcome, out)
     }
 
-    // Adds empty cells.
-    fn put_none(&self, outcome: Outcome, out: &mut Vec<u8>) -> Result<Outcome, AllocError>
-        ensures { IfOk result (λ addition. (addition ≡ outcome)
-            × (out.new.items ≡ out.old.items ++ blanks self.now.rows (paths_of self.now.paths))) }
+    // Adds the text where there is no record, and keeps it.
+    #[inline(never)]
+    fn put_absent(
+        &self,
+        place: RowPlace,
+        found: &D::Found,
+        network: Option<IpNetwork>,
+        texts: &mut KeptTexts,
+        out: &mut Vec<u8>,
+    ) -> Result<Outcome, AllocError>
+        requires of { D.Found.is_of found.now (D.databases self.now.from) }
+        requires absent { spec_has_record (D.Found.offsets found.now) ≡ false }
+        requires fits { Remembers (W.template self.now.what) (D.databases self.now.from)
+            texts.old }
+        ensures added { IfOk result (λ fares. PutsRecords (W.template self.now.what)
+            (D.databases self.now.from) place network (D.Found.offsets found.now) fares
+            out.old.items out.new.items) }
+        ensures fits { Remembers (W.template self.now.what) (D.databases self.now.from)
+            texts.new }
     {
-        put_blanks(self.rows, self.paths.as_slice(), out)?;
-        Ok(outcome)
+        let none = texts.none.as_slice();
+        texts
+            .cache
+            .keep_numbered(found.key(), none, Outcome::Absent, Keeping::Always);
+        put_text(place, texts.none.as_slice(), Outcome::Absent, out)
     }
 
-    // Adds empty cells to a row without an address, unless it is empty.
-    fn put_unread(&self, text: &[u8], out: &mut Vec<u8>) -> Result<Outcome, AllocError>
-        ensures { IfOk result (λ outcome. (outcome ≡ Unreadable) × (out.new.items ≡ out.old.items
-            ++ blanks_after text.now (blanks self.now.rows (paths_of self.now.paths)))) }
+    // Adds the text of what was found, or that where there is no record.
+    fn put_answer(
+        &self,
+        place: RowPlace,
+        found: &D::Found,
+        network: Option<IpNetwork>,
+        texts: &mut KeptTexts,
+        out: &mut Vec<u8>,
+    ) -> Result<Outcome, AllocError>
+        requires of { D.Found.is_of found.now (D.databases self.now.from) }
+        requires fits { Remembers (W.template self.now.what) (D.databases self.now.from)
+            texts.old }
+        ensures added { IfOk result (λ fares. PutsRecords (W.template self.now.what)
+            (D.databases self.now.from) place network (D.Found.offsets found.now) fares
+            out.old.items out.new.items) }
+        ensures fits { Remembers (W.template self.now.what) (D.databases self.now.from)
+            texts.new }
     {
-        if text.is_empty() {
-            return Ok(Outcome::Unreadable);
+        if found.has_record() {
+            self.put_records(place, found, network, texts, out)
+        } else {
+            self.put_absent(place, found, network, texts, out)
         }
-        self.put_none(Outcome::Unreadable, out)
     }
 
-    // What is answered for an address.
-    #[inline(always)]
-    fn answer(&self, asked: Asked) -> Result<LookupResult<'a, S>, MaxMindDbError>
-        requires found { IfSome asked.leaf (IsFoundFor self.now.reader.now asked.address) }
-        ensures answered { IfOk result (λ r.
-            Answers self.now.reader.now asked.address (leaf_of r) (outcome_at (offset_found r))) }
-        ensures database { IfOk result (λ r. database_asked r ≡ self.now.reader.now) }
-        ensures of_input { FailsAs OfInput result ↔ ¬ (CanAsk self.now.reader.now asked.address) }
-        ensures of_database { FailsAs OfDatabase result
-            ↔ IsInvalidAt self.now.reader.now asked.address }
-        ensures no_other { IfErr result (λ e. (kind_of e ≡ OfInput) ⊎ (kind_of e ≡ OfDatabase)) }
+    // Adds the text of what was found: the one that is kept, or a new one.
+    fn put_found(
+        &self,
+        place: RowPlace,
+        found: &D::Found,
+        network: Option<IpNetwork>,
+        texts: &mut KeptTexts,
+        out: &mut Vec<u8>,
+    ) -> Result<Outcome, AllocError>
+        requires of { D.Found.is_of found.now (D.databases self.now.from) }
+        requires fits { Remembers (W.template self.now.what) (D.databases self.now.from)
+            texts.old }
+        ensures added { IfOk result (λ fares. PutsRecords (W.template self.now.what)
+            (D.databases self.now.from) place network (D.Found.offsets found.now) fares
+            out.old.items out.new.items) }
+        ensures fits { Remembers (W.template self.now.what) (D.databases self.now.from)
+            texts.new }
     {
-        match asked.leaf {
-            Some(leaf) => self.reader.lookup_found(asked.address, leaf),
-            None => self.reader.lookup(asked.address),
+        if let Some(key) = found.key()
+            && let Some(kept) = texts.cache.kept(key)
+        {
+            return put_at(place, kept.cells, kept.outcome, out);
+        }
+        self.put_answer(place, found, network, texts, out)
+    }
+
+    // Adds the text of what was found, after the network of the address where that is shown.
+    fn put_whole(
+        &self,
+        place: RowPlace,
+        found: &D::Found,
+        texts: &mut KeptTexts,
+        out: &mut Vec<u8>,
+    ) -> Result<Outcome, AllocError>
+        requires of { D.Found.is_of found.now (D.databases self.now.from) }
+        requires fits { Remembers (W.template self.now.what) (D.databases self.now.from)
+            texts.old }
+        ensures added { IfOk result (λ fares. PutsFound (W.template self.now.what)
+            (D.databases self.now.from) place (D.Found.shows found.now)
+            (D.Found.offsets found.now) fares out.old.items out.new.items) }
+        ensures fits { Remembers (W.template self.now.what) (D.databases self.now.from)
+            texts.new }
+    {
+        if !self.what.shows_network() {
+            return self.put_answer(place, found, None, texts, out);
+        }
+        let network = found.shown_network();
+        self.what.put_front(self.alloc, network, out)?;
+        self.put_found(place, found, network, texts, out)
+    }
+
+    // Adds what is added to a row without an address.
+    #[inline(never)]
+    fn put_unread(
+        &self,
+        place: RowPlace,
+        texts: &KeptTexts,
+        out: &mut Vec<u8>,
+    ) -> Result<Outcome, AllocError>
+        requires { Remembers (W.template self.now.what) (D.databases self.now.from) texts.now }
+        ensures { IfOk result (λ fares. PutsUnread (W.template self.now.what) place
+            out.old.items out.new.items × (fares ≡ Unreadable)) }
+    {
+        self.what.put_unread(place, texts.none.as_slice(), out)?;
+        Ok(Outcome::Unreadable)
+    }
+
+    // Adds what is added for an address that is rejected.
+    #[inline(never)]
+    fn put_rejected(
+        &self,
+        address: IpAddr,
+        texts: &mut KeptTexts,
+        out: &mut Vec<u8>,
+    ) -> Result<Outcome, AllocError>
+        requires fits { Remembers (W.template self.now.what) (D.databases self.now.from)
+            texts.old }
+        ensures added { IfOk result (λ fares. PutsRejected (W.template self.now.what)
+            out.old.items out.new.items × (fares ≡ Failed)) }
+        ensures fits { Remembers (W.template self.now.what) (D.databases self.now.from)
+            texts.new }
+    {
+        self.from
+            .note_rejected(self.alloc, address, &mut texts.notes);
+        self.what.put_rejected(texts.none.as_slice(), out)?;
+        Ok(Outcome::Failed)
+    }
+
+    // Adds the text of an address that is not kept, and keeps it.
+    #[inline(never)]
+    fn put_new(
+        &self,
+        place: RowPlace,
+        asked: AheadAddress,
+        texts: &mut KeptTexts,
+        room: &mut D::Room,
+        out: &mut Vec<u8>,
+    ) -> Result<Outcome, AllocError>
+        requires numbered { (addresses : List SpecIpAddr)
+            × D.knows self.now.from room.old addresses
+            × IsNumberOf addresses asked.number asked.address }
+        requires has { D.has self.now.from room.old asked.address }
+        requires fits { Remembers (W.template self.now.what) (D.databases self.now.from)
+            texts.old }
+        ensures added { IfOk result (λ fares. PutsFor (W.template self.now.what)
+            (D.databases self.now.from) place (Some asked.address) fares
+            out.old.items out.new.items) }
+        ensures fits { Remembers (W.template self.now.what) (D.databases self.now.from)
+            texts.new }
+        ensures knows { (addresses : List SpecIpAddr)
+            → D.knows self.now.from room.old addresses
+            → D.knows self.now.from room.new addresses }
+    {
+        self.from.ask(room, &asked.address, asked.number);
+        match self.from.found(room) {
+            Some(found) => self.put_whole(place, found, texts, out),
+            None => self.put_rejected(asked.address, texts, out),
         }
     }
 
-    // Adds the cells of an address.
+    // Adds the text of an address: the one that is kept, or a new one. With the network none is kept whole.
     fn put_address(
         &self,
-        asked: Asked,
-        cache: &mut AddedCache,
-        notes: &mut Notes,
+        place: RowPlace,
+        asked: NumberedAddress<'_>,
+        texts: &mut KeptTexts,
+        room: &mut D::Room,
         out: &mut Vec<u8>,
     ) -> Result<Outcome, AllocError>
-        requires kept { AreKeptFor self.now.reader.now self.now.rows self.now.paths cache.old }
-        requires found { IfSome asked.leaf (IsFoundFor self.now.reader.now asked.address) }
-        ensures added { IfOk result (λ outcome. AddsForTo self.now.reader.now self.now.rows
-            self.now.paths asked.address outcome out.old out.new) }
-        ensures kept { AreKeptFor self.now.reader.now self.now.rows self.now.paths cache.new }
+        requires numbered { (addresses : List SpecIpAddr)
+            × D.knows self.now.from room.old addresses
+            × IsNumberOf addresses asked.number asked.address.now }
+        requires fits { Remembers (W.template self.now.what) (D.databases self.now.from)
+            texts.old }
+        ensures added { IfOk result (λ fares. PutsFor (W.template self.now.what)
+            (D.databases self.now.from) place (Some asked.entry.address.now) fares
+            out.old.items out.new.items) }
+        ensures fits { Remembers (W.template self.now.what) (D.databases self.now.from)
+            texts.new }
+        ensures knows { (addresses : List SpecIpAddr)
+            → D.knows self.now.from room.old addresses
+            → D.knows self.now.from room.new addresses }
     {
-        let Ok(found) = self.answer(asked) else {
-            note_rejected(self.alloc, self.reader, asked.address, notes);
-            return self.put_none(Outcome::Failed, out);
+        let key = self.from.key(room, asked.address, asked.number)?;
+        if !self.what.shows_network()
+            && let Some(key) = key
+            && let Some(kept) = texts.cache.kept(key)
+        {
+            let outcome = put_at(place, kept.cells, kept.outcome, out)?;
+            texts.cache.note_found();
+            return Ok(outcome);
+        }
+        let asked = AheadAddress {
+            address: *asked.address,
+            number: asked.number,
         };
-        let Some(offset) = found.offset() else {
-            return self.put_none(Outcome::Absent, out);
-        };
-        match cache.kept(offset) {
-            Some(kept) => put_kept(kept, out),
-            None => self.put_record(&found, offset, cache, notes, out),
-        }
+        self.put_new(place, asked, texts, room, out)
     }
 
-    // The address in the cell of the column.
-    #[inline(always)]
-    fn address_in_cell(&self, text: &[u8], is_long: bool, ahead: &mut Ahead) -> Option<Asked>
-        requires { IsAhead self.now.reader.now self.now.reading ahead.old }
-        ensures spelled { ReadsAddress self.now.reading
-            (cell_read self.now.rows self.now.reading self.now.column text.now is_long)
-            (option_map (λ asked. asked.address) result) }
-        ensures found { IfSome result (λ asked.
-            IfSome asked.leaf (IsFoundFor self.now.reader.now asked.address)) }
-        ensures kept { IsAhead self.now.reader.now self.now.reading ahead.new }
-    {
-        let is_kept = ahead.has_next();
-        match part_of(self.rows, self.reading, text, is_long, self.column, is_kept) {
-            Some(cell) => ahead.read(self.reading, cell),
-            None => None,
-        }
-    }
-
-    // The address in a row.
-    #[inline(always)]
-    fn address_in(&self, text: &[u8], is_long: bool, ahead: &mut Ahead) -> Option<Asked>
-        requires { IsAhead self.now.reader.now self.now.reading ahead.old }
-        ensures spelled { ReadsRow self.now.rows self.now.reading self.now.column text.now is_long
-            (option_map (λ asked. asked.address) result) }
-        ensures found { IfSome result (λ asked.
-            IfSome asked.leaf (IsFoundFor self.now.reader.now asked.address)) }
-        ensures kept { IsAhead self.now.reader.now self.now.reading ahead.new }
-    {
-        match self.reading {
-            Reading::Anywhere => without_leaf(address_anywhere(text, is_long)),
-            Reading::LastAnywhere => without_leaf(last_address_anywhere(text, is_long)),
-            _ => self.address_in_cell(text, is_long, ahead),
-        }
-    }
-
-    // What the database is asked for a row.
-    #[inline(always)]
-    fn asked_for(&self, text: &[u8], is_long: bool, ahead: &mut Ahead) -> Option<Asked>
-        requires { IsAhead self.now.reader.now self.now.reading ahead.old }
-        ensures asked { AsksForRow self.now.reader.now self.now.rows self.now.reading
-            self.now.column text.now is_long (option_map (λ asked. asked.address) result) }
-        ensures found { IfSome result (λ asked.
-            IfSome asked.leaf (IsFoundFor self.now.reader.now asked.address)) }
-        ensures kept { IsAhead self.now.reader.now self.now.reading ahead.new }
-    {
-        match self.address_in(text, is_long, ahead) {
-            Some(read) => Some(as_asked(self.reader, read)),
-            None => None,
-        }
-    }
-
-    // Adds the cells of a row, with those of its address.
-    #[inline(always)]
+    // Adds the text of the address in a row.
     fn put_row(
         &self,
-        text: &[u8],
-        is_long: bool,
-        ahead: &mut Ahead,
-        cache: &mut AddedCache,
-        notes: &mut Notes,
+        place: RowPlace,
+        row: &RowAddress,
+        texts: &mut KeptTexts,
+        room: &mut D::Room,
         out: &mut Vec<u8>,
     ) -> Result<Outcome, AllocError>
-        requires ahead { IsAhead self.now.reader.now self.now.reading ahead.old }
-        requires kept { AreKeptFor self.now.reader.now self.now.rows self.now.paths cache.old }
-        ensures added { IfOk result (λ outcome. AddsRowTo self.now.reader.now self.now.rows
-            self.now.reading self.now.column self.now.paths text.now is_long outcome
-            out.old out.new) }
-        ensures ahead { IsAhead self.now.reader.now self.now.reading ahead.new }
-        ensures kept { AreKeptFor self.now.reader.now self.now.rows self.now.paths cache.new }
+        requires numbered { (addresses : List SpecIpAddr)
+            × D.knows self.now.from room.old addresses × IsNumbered addresses row.now }
+        requires fits { Remembers (W.template self.now.what) (D.databases self.now.from)
+            texts.old }
+        ensures added { IfOk result (λ fares. PutsFor (W.template self.now.what)
+            (D.databases self.now.from) place row.now.address fares
+            out.old.items out.new.items) }
+        ensures fits { Remembers (W.template self.now.what) (D.databases self.now.from)
+            texts.new }
+        ensures knows { (addresses : List SpecIpAddr)
+            → D.knows self.now.from room.old addresses
+            → D.knows self.now.from room.new addresses }
     {
-        match self.asked_for(text, is_long, ahead) {
-            Some(asked) => self.put_address(asked, cache, notes, out),
-            None => self.put_unread(text, out),
+        match &row.address {
+            Some(address) => {
+                let asked = NumberedAddress {
+                    address,
+                    number: row.number,
+                };
+                self.put_address(place, asked, texts, room, out)
+            }
+            None => self.put_unread(place, texts, out),
         }
+    }
+
+    // Adds to a row at a place.
+    #[inline(always)]
+    fn put_place(
+        &self,
+        place: RowPlace,
+        memory: &mut EnrichMemory<D::Room, W::Scratch>,
+        text: &[u8],
+        is_long: bool,
+        out: &mut Vec<u8>,
+    ) -> Result<Added, AllocError>
+        requires read { W.reads self.now.what memory.old.scratch text.now is_long place }
+        requires texts { Remembers (W.template self.now.what) (D.databases self.now.from)
+            memory.old.kept }
+        requires scratch { W.fits self.now.what memory.old.scratch }
+        requires room { D.knows self.now.from memory.old.room (W.ahead memory.old.scratch) }
+        ensures added { IfOk result (λ addition. (extra : List ℕ)
+            × Adds (W.template self.now.what) (D.databases self.now.from) text.now is_long extra
+            addition.behind addition.outcome × (out.new.items ≡ out.old.items ++ extra)) }
+        ensures behind { IfOk result (λ addition.
+            StandsBehind text.now is_long addition.behind) }
+        ensures texts { Remembers (W.template self.now.what) (D.databases self.now.from)
+            memory.new.kept }
+        ensures scratch { W.fits self.now.what memory.new.scratch }
+        ensures room { D.knows self.now.from memory.new.room (W.ahead memory.new.scratch) }
+    {
+        self.what
+            .put_lead(text, is_long, &mut memory.kept.notes, out)?;
+        let mut row = RowAddress {
+            address: None,
+            number: None,
+        };
+        self.what
+            .address(&mut memory.scratch, text, is_long, &place, &mut row);
+        let outcome = self.put_row(place, &row, &mut memory.kept, &mut memory.room, out)?;
+        Ok(Added {
+            outcome,
+            behind: place.behind,
+        })
     }
 }
 
-impl<'a, 'f, S: AsSlice<u8> + Drop> Additions for Enrichment<'a, 'f, S> {
-    ghost use Rattle.mmdb_cmd_enrich.specs.Remembers.{Remembers};
-    ghost use Rattle.mmdb_cmd_enrich.specs.Wanted.{cells};
+impl<D: Ask, W: Template> Additions for Enrichment<D, W> {
+    ghost use Rattle.mmdb_cmd_enrich.specs.Template.{most_of};
 
-    type Memory = RowMemory;
+    type Memory = EnrichMemory<D::Room, W::Scratch>;
 
     ghost adds = { λ e. record {
-      most = most_seen;
+      most = most_of (W.template e.what);
       adds = λ text goes_on extra behind outcome.
-          (behind ≡ 0) × AddsTo e.reader.now e.rows e.reading e.column e.breaks (paths_of e.paths)
-          text goes_on extra outcome;
+          Adds (W.template e.what) (D.databases e.from) text goes_on extra behind outcome;
     } };
 
-    ghost fits = { λ e memory.
-        Remembers e.reader.now e.reading (cells e.reader.now e.rows (paths_of e.paths)) memory };
+    ghost fits = { λ e memory. Remembers (W.template e.what) (D.databases e.from) memory.kept
+        × W.fits e.what memory.scratch × D.knows e.from memory.room (W.ahead memory.scratch) };
 
     #[inline(always)]
     fn most_seen(&self) -> usize {
-        MOST_SEEN
+        self.what.most_seen()
     }
 
     fn add(
         &self,
-        memory: &mut RowMemory,
+        memory: &mut EnrichMemory<D::Room, W::Scratch>,
         text: &[u8],
         is_long: bool,
         out: &mut Vec<u8>,
     ) -> Result<Added, AllocError> {
-        memory.notes.pass_row();
-        put_missing(
-            self.rows,
-            self.breaks,
-            text,
-            is_long,
-            &mut memory.notes,
-            out,
-        )?;
-        let outcome = self.put_row(
-            text,
-            is_long,
-            &mut memory.ahead,
-            &mut memory.cache,
-            &mut memory.notes,
-            out,
-        )?;
-        Ok(Added { outcome, behind: 0 })
+        memory.kept.notes.pass_row();
+        match self
+            .what
+            .read(self.alloc, &mut memory.scratch, text, is_long)?
+        {
+            ReadRow::Place(place) => self.put_place(place, memory, text, is_long, out),
+            ReadRow::Passed(outcome) => Ok(Added { outcome, behind: 0 }),
+        }
     }
 
-    fn foresee(&self, memory: &mut RowMemory, bytes: &[u8]) {
-        if self.reader.outgrows_caches() {
-            memory
-                .ahead
-                .look(self.reader, self.rows, self.reading, self.column, bytes);
+    fn foresee(&self, memory: &mut EnrichMemory<D::Room, W::Scratch>, bytes: &[u8]) {
+        if self.from.is_large() {
+            self.what.look(&mut memory.scratch, bytes);
+            let addresses = self.what.addresses(&memory.scratch);
+            self.from.find(&mut memory.room, addresses);
         }
     }
 }

@@ -1,20 +1,21 @@
 //! Rows with fields after them.
+use crate::ask::{Ask, OneDatabase};
 use crate::enrichment::Enrichment;
 use crate::fields::wanted_fields;
 use crate::header::{Columns, columns_of_input};
 use crate::input::{Counted, InputKind, copy_mark, kind_of_input};
-use crate::json_enrichment::{JsonEnrichment, JsonMemory};
-use crate::layered_enrichment::{LayeredEnrichment, LayeredMemory};
-use crate::layered_json_enrichment::{LayeredJsonEnrichment, LayeredJsonMemory};
+use crate::layers::Databases;
 use crate::members::{MemberKind, NamedField};
 use crate::notes::Notes;
+use crate::object_member::ObjectMember;
 use crate::opening::open_all;
 use crate::output::Output;
 use crate::reload::{Lookout, reopen};
-use crate::row_memory::RowMemory;
+use crate::row_cells::RowCells;
 use crate::task::{JsonTask, LINES, RowsTask, json_task, rows_task};
+use crate::template::Template;
 use crate::warnings::{AddressPlace, Remembering, Warnings};
-use crate::watch::Watch;
+use crate::watch::{Watch, WatchedRows};
 use mmdb_arguments::EnrichArguments;
 use mmdb_console::{Console, Pace, ProgramError, ProgressLine, line_of};
 use mmdb_filter::{Additions, Counts, Live, MOST_ASKED, Rows, filter_rows, has_room};
@@ -126,7 +127,12 @@ fn text_of_members(
 
 // What rows pass through, what is known of those that passed, and what is said of them.
 #[derive(Drop)]
-struct Passage<'n, 'a> {
+struct Passage<'r, 'n, 'a, R: Files + Clock> {
+    rt: &'r R,
+    /// What rows are.
+    rows: Rows,
+    /// What the databases are called.
+    names: &'r [&'r str],
     kind: InputKind,
     /// How many bytes of the input passed.
     bytes: u64,
@@ -140,17 +146,22 @@ struct Passage<'n, 'a> {
     lookout: Lookout,
 }
 
-impl<'n, 'a> Passage<'n, 'a> {
+impl<'r, 'n, 'a, R: Files + Clock> Passage<'r, 'n, 'a, R> {
     // Of no row.
-    fn new<R: Files>(
-        rt: &R,
+    fn new(
+        rt: &'r R,
         alloc: Global,
+        rows: Rows,
+        names: &'r [&'r str],
         notes: &'n mut Warnings<'a>,
         lookout: Lookout,
-    ) -> Passage<'n, 'a> {
+    ) -> Passage<'r, 'n, 'a, R> {
         let mut records = Notes::new(alloc);
         records.passes_unasked = notes.is_quiet();
         Passage {
+            rt,
+            rows,
+            names,
             kind: kind_of_input(rt),
             bytes: 0,
             counts: Counts::new(),
@@ -171,12 +182,10 @@ impl<'n, 'a> Passage<'n, 'a> {
 // ends before the input's end after the first thousand, and where a file was replaced. Whether it came to the input's end.
 #[inline(never)]
 fn filter<A: Additions, R: Files + Clock, I: Live, O: Write, E: Pace>(
-    rt: &R,
-    rows: Rows,
     additions: &A,
     memory: &mut A::Memory,
     input: &mut I,
-    passage: &mut Passage<'_, '_>,
+    passage: &mut Passage<'_, '_, '_, R>,
     console: &mut Console<'_, O, E>,
 ) -> Result<bool, ProgramError>
     requires { A.fits additions.now memory.old }
@@ -185,17 +194,13 @@ fn filter<A: Additions, R: Files + Clock, I: Live, O: Write, E: Pace>(
     let alloc = console.alloc;
     let bytes = Cell::new(passage.bytes);
     let line = ProgressLine::new(alloc, "lines", console.errors);
-    let mut watch = Watch::new(
-        alloc,
-        line,
-        &bytes,
-        passage.kind.size,
-        !passage.is_checked,
-        passage.notes.is_quiet(),
-        passage.notes.before,
-        &mut passage.lookout,
-        rt,
-    );
+    let rows = WatchedRows {
+        size: passage.kind.size,
+        stops: !passage.is_checked,
+        is_quiet: passage.notes.is_quiet(),
+        before: passage.notes.before,
+    };
+    let mut watch = Watch::new(alloc, line, rows, &bytes, &mut passage.lookout, passage.rt);
     let mut out = Output::new(console.out, passage.kind.is_live);
     let mut counted = Counted {
         input,
@@ -203,7 +208,7 @@ fn filter<A: Additions, R: Files + Clock, I: Live, O: Write, E: Pace>(
     };
     let filtered = filter_rows(
         alloc,
-        rows,
+        passage.rows,
         additions,
         memory,
         passage.counts,
@@ -224,20 +229,18 @@ fn filter<A: Additions, R: Files + Clock, I: Live, O: Write, E: Pace>(
 // Copies rows up to the input's end, or until a file was replaced, and says whether that was the end. What is wrong with the
 // first thousand is said when they passed.
 fn copy_rows<A: Additions, R: Files + Clock, I: Live, O: Write, E: Pace>(
-    rt: &R,
-    rows: Rows,
     additions: &A,
     memory: &mut A::Memory,
     databases: &[Database],
     input: &mut I,
-    passage: &mut Passage<'_, '_>,
+    passage: &mut Passage<'_, '_, '_, R>,
     console: &mut Console<'_, O, E>,
 ) -> Result<bool, ProgramError>
 where
     A::Memory: Remembering,
     requires { A.fits additions.now memory.old }
 {
-    let is_end = filter(rt, rows, additions, memory, input, passage, console)?;
+    let is_end = filter(additions, memory, input, passage, console)?;
     if is_end || passage.lookout.has_seen {
         return Ok(is_end);
     }
@@ -245,14 +248,14 @@ where
         .notes
         .check(passage.counts, memory.records(), databases, console);
     passage.is_checked = true;
-    filter(rt, rows, additions, memory, input, passage, console)
+    filter(additions, memory, input, passage, console)
 }
 
 // Reports how all rows fared, and answers the status. Standard output is flushed.
-fn finish<O: Write, E: Pace>(
+fn finish<R: Files + Clock, O: Write, E: Pace>(
     databases: &[Database],
     text: Result<String, AllocError>,
-    passage: &mut Passage<'_, '_>,
+    passage: &mut Passage<'_, '_, '_, R>,
     console: &mut Console<'_, O, E>,
 ) -> Result<u8, ProgramError> {
     console.flush()?;
@@ -268,13 +271,11 @@ fn finish<O: Write, E: Pace>(
 // Copies rows with what is added to each, by a memory of no row, up to the input's end or until a file was replaced, and says
 // whether that was the end.
 fn enrich_with<A: Additions, R: Files + Clock, I: Live, O: Write, E: Pace>(
-    rt: &R,
-    rows: Rows,
     additions: &A,
     memory: A::Memory,
     databases: &[Database],
     input: &mut I,
-    passage: &mut Passage<'_, '_>,
+    passage: &mut Passage<'_, '_, '_, R>,
     console: &mut Console<'_, O, E>,
 ) -> Result<bool, ProgramError>
 where
@@ -282,98 +283,55 @@ where
     requires { A.fits additions.now memory }
 {
     let mut memory = memory;
-    let done = copy_rows(
-        rt,
-        rows,
-        additions,
-        &mut memory,
-        databases,
-        input,
-        passage,
-        console,
-    );
+    let done = copy_rows(additions, &mut memory, databases, input, passage, console);
     passage.records = mem::replace(memory.records_mut(), Notes::new(console.alloc));
     done
 }
 
-// What databases are called where a record of one can't be read: one alone needs no name.
-fn names_said<'n>(names: &'n [&'n str]) -> &'n [&'n str] {
-    match names {
-        [_] => &[],
-        _ => names,
-    }
-}
-
-// Copies rows with fields of one database after each.
-fn enrich_rows<R: Files + Clock, I: Live, O: Write, E: Pace>(
-    rt: &R,
-    enrichment: &Enrichment<'_, '_, Vec<u8>>,
+// Copies rows with what is added to each.
+fn enrich_by<D: Ask, W: Template, R: Files + Clock, I: Live, O: Write, E: Pace>(
+    enrichment: &Enrichment<D, W>,
     databases: &[Database],
     input: &mut I,
-    passage: &mut Passage<'_, '_>,
+    passage: &mut Passage<'_, '_, '_, R>,
+    console: &mut Console<'_, O, E>,
+) -> Result<bool, ProgramError> {
+    let memory = enrichment.memory(passage.take_records(console.alloc))?;
+    enrich_with(enrichment, memory, databases, input, passage, console)
+}
+
+// Copies rows with what a template adds to each, of one database or of several. One alone needs no name.
+fn enrich_from<W: Template + Drop, R: Files + Clock, I: Live, O: Write, E: Pace>(
+    what: W,
+    databases: &[Database],
+    input: &mut I,
+    passage: &mut Passage<'_, '_, '_, R>,
     console: &mut Console<'_, O, E>,
 ) -> Result<bool, ProgramError> {
     let alloc = console.alloc;
-    let memory = RowMemory::with_notes(alloc, passage.take_records(alloc))?;
-    let rows = enrichment.rows;
-    enrich_with(
-        rt, rows, enrichment, memory, databases, input, passage, console,
-    )
-}
-
-// Copies rows with fields of several databases after each.
-fn enrich_layered<R: Files + Clock, I: Live, O: Write, E: Pace>(
-    rt: &R,
-    enrichment: &LayeredEnrichment<'_, '_, Vec<u8>>,
-    input: &mut I,
-    passage: &mut Passage<'_, '_>,
-    console: &mut Console<'_, O, E>,
-) -> Result<bool, ProgramError> {
-    let alloc = console.alloc;
-    let memory = LayeredMemory::with_notes(alloc, passage.take_records(alloc))?;
-    let (rows, readers) = (enrichment.rows, enrichment.readers);
-    enrich_with(
-        rt, rows, enrichment, memory, readers, input, passage, console,
-    )
-}
-
-// Copies rows with fields after each, up to the input's end or until a file was replaced, and says whether that was the end.
-fn enrich_columns<R: Files + Clock, I: Live, O: Write, E: Pace>(
-    rt: &R,
-    databases: &[Database],
-    names: &[&str],
-    task: RowsTask<'_>,
-    columns: Columns,
-    input: &mut I,
-    passage: &mut Passage<'_, '_>,
-    console: &mut Console<'_, O, E>,
-) -> Result<bool, ProgramError> {
-    if let [database] = databases
-        && !task.network
-    {
-        let enrichment = Enrichment {
-            alloc: console.alloc,
-            reader: database,
-            reading: task.reading,
-            rows: task.rows,
-            column: columns.address,
-            breaks: columns.breaks,
-            paths: task.paths,
-        };
-        return enrich_rows(rt, &enrichment, databases, input, passage, console);
+    if let [database] = databases {
+        let from = OneDatabase { reader: database };
+        let enrichment = Enrichment { alloc, from, what };
+        return enrich_by(&enrichment, databases, input, passage, console);
     }
-    let enrichment = LayeredEnrichment {
-        alloc: console.alloc,
+    let from = Databases {
         readers: databases,
-        names: names_said(names),
-        reading: task.reading,
+        names: passage.names,
+    };
+    let enrichment = Enrichment { alloc, from, what };
+    enrich_by(&enrichment, databases, input, passage, console)
+}
+
+// Fields after each row.
+fn cells_of(task: RowsTask<'_>, columns: Columns) -> RowCells<'_> {
+    RowCells {
         rows: task.rows,
+        reading: task.reading,
         column: columns.address,
         breaks: columns.breaks,
         network: task.network,
         paths: task.paths,
-    };
-    enrich_layered(rt, &enrichment, input, passage, console)
+    }
 }
 
 // The fields that are the records of so many databases.
@@ -390,11 +348,11 @@ fn record_fields<'k>(alloc: Global, keys: &'k [String]) -> Result<Vec<NamedField
     Ok(fields)
 }
 
-// What the member of several databases has.
-fn kind_of(task: &JsonTask<'_>) -> MemberKind {
+// What the member has, of so many databases: of one alone without a field all of its record.
+fn kind_of(task: &JsonTask<'_>, databases: &[Database]) -> MemberKind {
     if task.network {
         MemberKind::NetworkAndFields
-    } else if task.fields.is_empty() {
+    } else if task.fields.is_empty() && databases.len() > 1 {
         MemberKind::Records
     } else {
         MemberKind::Fields
@@ -415,133 +373,56 @@ fn fields_of<'k>(
     }
 }
 
-// Copies lines with a member more in each object, of several databases, whose records have these keys.
-fn enrich_several<R: Files + Clock, I: Live, O: Write, E: Pace>(
-    rt: &R,
+// Copies lines with a member more in each object, up to the input's end or until a file was replaced, and says whether that
+// was the end.
+fn enrich_json<R: Files + Clock, I: Live, O: Write, E: Pace>(
     databases: &[Database],
-    names: &[&str],
-    keys: &[String],
     task: JsonTask<'_>,
     input: &mut I,
-    passage: &mut Passage<'_, '_>,
+    passage: &mut Passage<'_, '_, '_, R>,
     console: &mut Console<'_, O, E>,
 ) -> Result<bool, ProgramError> {
-    let kind = kind_of(&task);
-    let enrichment = LayeredJsonEnrichment {
-        alloc: console.alloc,
-        readers: databases,
-        names: names_said(names),
+    let alloc = console.alloc;
+    let kind = kind_of(&task, databases);
+    let keys = keys_of_all(alloc, passage.names, databases, ADDRESS)?;
+    let what = ObjectMember {
         reading: task.reading,
         path: task.path,
         name: task.into,
         nulls: task.nulls,
         kind,
-        reads_long: has_room(console.alloc, MOST_ASKED),
-        fields: fields_of(console.alloc, kind, keys, task.fields)?,
+        reads_long: has_room(alloc, MOST_ASKED),
+        fields: fields_of(alloc, kind, keys.as_slice(), task.fields)?,
     };
-    enrich_layered_objects(rt, &enrichment, input, passage, console)
-}
-
-// Copies lines with a member more in each object, up to the input's end or until a file was replaced, and says whether that
-// was the end.
-fn enrich_json<R: Files + Clock, I: Live, O: Write, E: Pace>(
-    rt: &R,
-    databases: &[Database],
-    names: &[&str],
-    task: JsonTask<'_>,
-    input: &mut I,
-    passage: &mut Passage<'_, '_>,
-    console: &mut Console<'_, O, E>,
-) -> Result<bool, ProgramError> {
-    if let [database] = databases
-        && !task.network
-    {
-        let enrichment = JsonEnrichment {
-            alloc: console.alloc,
-            reader: database,
-            reading: task.reading,
-            path: task.path,
-            name: task.into,
-            nulls: task.nulls,
-            reads_long: has_room(console.alloc, MOST_ASKED),
-            fields: task.fields,
-        };
-        return enrich_objects(rt, &enrichment, databases, input, passage, console);
-    }
-    let keys = keys_of_all(console.alloc, names, databases, ADDRESS)?;
-    enrich_several(
-        rt,
-        databases,
-        names,
-        keys.as_slice(),
-        task,
-        input,
-        passage,
-        console,
-    )
-}
-
-// Copies lines with a member more in each object, of one database.
-fn enrich_objects<R: Files + Clock, I: Live, O: Write, E: Pace>(
-    rt: &R,
-    enrichment: &JsonEnrichment<'_, '_, Vec<u8>>,
-    databases: &[Database],
-    input: &mut I,
-    passage: &mut Passage<'_, '_>,
-    console: &mut Console<'_, O, E>,
-) -> Result<bool, ProgramError> {
-    let alloc = console.alloc;
-    let memory = JsonMemory::with_notes(alloc, passage.take_records(alloc))?;
-    enrich_with(
-        rt, LINES, enrichment, memory, databases, input, passage, console,
-    )
-}
-
-// Copies lines with a member more in each object, of several databases.
-fn enrich_layered_objects<R: Files + Clock, I: Live, O: Write, E: Pace>(
-    rt: &R,
-    enrichment: &LayeredJsonEnrichment<'_, '_, Vec<u8>>,
-    input: &mut I,
-    passage: &mut Passage<'_, '_>,
-    console: &mut Console<'_, O, E>,
-) -> Result<bool, ProgramError> {
-    let alloc = console.alloc;
-    let memory = LayeredJsonMemory::with_notes(alloc, passage.take_records(alloc))?;
-    let readers = enrichment.readers;
-    enrich_with(
-        rt, LINES, enrichment, memory, readers, input, passage, console,
-    )
+    enrich_from(what, databases, input, passage, console)
 }
 
 // Opens what took the place of files, if that was seen. What was noted of records is of those before.
 fn take_new<R: Files + Clock, O: Write, E: Pace>(
-    rt: &R,
     databases: &mut Vec<Database>,
-    passage: &mut Passage<'_, '_>,
+    passage: &mut Passage<'_, '_, '_, R>,
     console: &mut Console<'_, O, E>,
 ) {
-    if passage.lookout.look(rt) {
-        reopen(rt, &mut passage.lookout, databases, console);
+    if passage.lookout.look(passage.rt) {
+        reopen(passage.rt, &mut passage.lookout, databases, console);
         passage.records.records.clear();
     }
 }
 
 // Copies all rows with fields after each. Where a file is replaced, the rows after that are looked up in the new one.
 fn copy_columns<R: Files + Clock, I: Live, O: Write, E: Pace>(
-    rt: &R,
     databases: &mut Vec<Database>,
-    names: &[&str],
     arguments: &EnrichArguments<'_>,
     columns: Columns,
     input: &mut I,
-    passage: &mut Passage<'_, '_>,
+    passage: &mut Passage<'_, '_, '_, R>,
     console: &mut Console<'_, O, E>,
 ) -> Result<(), ProgramError> {
     for _ in 0..u64::MAX {
-        take_new(rt, databases, passage, console);
+        take_new(databases, passage, console);
         let task = rows_task(console.alloc, &*arguments)?;
-        let at_hand = databases.as_slice();
-        if enrich_columns(rt, at_hand, names, task, columns, input, passage, console)? {
+        let what = cells_of(task, columns);
+        if enrich_from(what, databases.as_slice(), input, passage, console)? {
             return Ok(());
         }
     }
@@ -551,27 +432,17 @@ fn copy_columns<R: Files + Clock, I: Live, O: Write, E: Pace>(
 // Copies all lines with a member more in each object. Where a file is replaced, the lines after that are looked up in the new
 // one.
 fn copy_objects<R: Files + Clock, I: Live, O: Write, E: Pace>(
-    rt: &R,
     databases: &mut Vec<Database>,
-    names: &[&str],
     arguments: &EnrichArguments<'_>,
     input: &mut I,
-    passage: &mut Passage<'_, '_>,
+    passage: &mut Passage<'_, '_, '_, R>,
     console: &mut Console<'_, O, E>,
 ) -> Result<(), ProgramError> {
     let path = arguments.json.unwrap_or("");
     for _ in 0..u64::MAX {
-        take_new(rt, databases, passage, console);
+        take_new(databases, passage, console);
         let task = json_task(console.alloc, path, &*arguments)?;
-        if enrich_json(
-            rt,
-            databases.as_slice(),
-            names,
-            task,
-            input,
-            passage,
-            console,
-        )? {
+        if enrich_json(databases.as_slice(), task, input, passage, console)? {
             return Ok(());
         }
     }
@@ -580,20 +451,16 @@ fn copy_objects<R: Files + Clock, I: Live, O: Write, E: Pace>(
 
 // Copies all rows with fields after each, and reports how they fared. The first row may name the columns.
 fn enrich_all_rows<R: Files + Clock, I: Live, O: Write, E: Pace>(
-    rt: &R,
     databases: &mut Vec<Database>,
-    names: &[&str],
     task: &RowsTask<'_>,
     arguments: &EnrichArguments<'_>,
     input: &mut I,
-    passage: &mut Passage<'_, '_>,
+    passage: &mut Passage<'_, '_, '_, R>,
     console: &mut Console<'_, O, E>,
 ) -> Result<u8, ProgramError> {
     copy_mark(input, console.out)?;
     let columns = columns_of_input(console.alloc, task, input, console.out)?;
-    copy_columns(
-        rt, databases, names, arguments, columns, input, passage, console,
-    )?;
+    copy_columns(databases, arguments, columns, input, passage, console)?;
     let (counts, before) = (passage.counts, passage.notes.before);
     let text = text_of_rows(console.alloc, counts, &passage.records, before);
     finish(databases.as_slice(), text, passage, console)
@@ -601,17 +468,15 @@ fn enrich_all_rows<R: Files + Clock, I: Live, O: Write, E: Pace>(
 
 // Copies all lines with a member more in each object, and reports how they fared.
 fn enrich_all_objects<R: Files + Clock, I: Live, O: Write, E: Pace>(
-    rt: &R,
     databases: &mut Vec<Database>,
-    names: &[&str],
     name: &str,
     arguments: &EnrichArguments<'_>,
     input: &mut I,
-    passage: &mut Passage<'_, '_>,
+    passage: &mut Passage<'_, '_, '_, R>,
     console: &mut Console<'_, O, E>,
 ) -> Result<u8, ProgramError> {
     copy_mark(input, console.out)?;
-    copy_objects(rt, databases, names, arguments, input, passage, console)?;
+    copy_objects(databases, arguments, input, passage, console)?;
     let text = text_of_members(console.alloc, passage.counts, name, &*passage.notes);
     finish(databases.as_slice(), text, passage, console)
 }
@@ -633,11 +498,9 @@ fn enrich_to_rows<R: Files + Env + Clock, I: Live, O: Write, E: Pace>(
     if let Some(status) = open_all(rt, names, &mut databases, &mut lookout, console)? {
         return Ok(status);
     }
-    let mut passage = Passage::new(rt, console.alloc, &mut notes, lookout);
+    let mut passage = Passage::new(rt, console.alloc, task.rows, names, &mut notes, lookout);
     enrich_all_rows(
-        rt,
         &mut databases,
-        names,
         &task,
         &*arguments,
         input,
@@ -663,11 +526,9 @@ fn enrich_to_objects<R: Files + Env + Clock, I: Live, O: Write, E: Pace>(
     if let Some(status) = open_all(rt, names, &mut databases, &mut lookout, console)? {
         return Ok(status);
     }
-    let mut passage = Passage::new(rt, console.alloc, &mut notes, lookout);
+    let mut passage = Passage::new(rt, console.alloc, LINES, names, &mut notes, lookout);
     enrich_all_objects(
-        rt,
         &mut databases,
-        names,
         name,
         &*arguments,
         input,

@@ -1,22 +1,21 @@
 //! The member that is added to an object.
-ghost use Rattle.std.specs.Prelude.{◌≡◌, ◌++◌, List, [], Option, Some, None, false, OnOk, IfOk, IfErr, IfSome, IfNone};
-ghost use Rattle.std.specs.List.{slice_get};
-ghost use Rattle.mmdb_cmd_enrich.specs.Fields.{HasUnreadField, IsMember, IsMemberAfter, IsNullMember, IsNullMemberAfter, IsUnread, network_tokens, null_fields, null_values};
-ghost use Rattle.mmdb_cmd_enrich.specs.KeptReads.{paths_in, said};
-ghost use Rattle.mmdb_cmd_enrich.specs.Working.{PutsValue, PutsFields, PutsFieldsAfter, PutsFieldsOf, PutsValuesAfter, PutsWhole};
+ghost use Rattle.std.specs.Prelude.{◌≡◌, ◌++◌, [], None, false, OnOk, IfOk, IfErr};
+ghost use Rattle.mmdb_cmd_enrich.specs.Fields.{HasUnreadField, IsUnread, MemberAfter, IsNullMemberAfter, front_tokens, null_fields, null_values, network_tokens, nulls_of, reads_of_kind};
+ghost use Rattle.mmdb_cmd_enrich.specs.Working.{PutsValue, PutsFields, PutsFieldsAfter, PutsValuesAfter, PutsWhole};
 ghost use Rattle.mmdb_decode.specs.Errors.{Fails};
 ghost use Rattle.mmdb_format.specs.Error.{MemoryApart};
-ghost use Rattle.mmdb_format.specs.Unfolding.{Tree};
-ghost use Rattle.mmdb_reader.specs.declared.path.PathElement.{PathElement as SpecPathElement};
+ghost use Rattle.mmdb_layout.specs.Reading.{IsReadAs};
 
-use crate::kept_reads::KeptRead;
-use crate::read_fields::{FieldPlace, ReadFields};
+use crate::found::FoundRecords;
 use json::{Token, Writer};
+use mmdb_filter::Outcome;
 use mmdb_json::write_value;
 use mmdb_layout::NETWORK;
 use mmdb_net::IpNetwork;
 use mmdb_reader::{MaxMindDbError, PathElement};
+use mmdb_value::Value;
 use std::alloc::{AllocError, Global};
+use std::mem;
 
 /// A field of a record, under a name.
 #[derive(Drop)]
@@ -26,10 +25,10 @@ pub struct NamedField<'f> {
     pub path: Vec<PathElement<'f>>,
 }
 
-/// What a member of several databases has.
+/// What a member has.
 #[derive(Clone, Copy, PartialEq, Eq)]
 pub enum MemberKind {
-    /// Fields, each of the first record that has it.
+    /// Fields, each of the first record that has it, or, without a field, all of that record.
     Fields,
     /// The network of the address, and fields.
     NetworkAndFields,
@@ -37,93 +36,72 @@ pub enum MemberKind {
     Records,
 }
 
-// Writes a value that is kept, or null where nothing is there.
-fn put_kept(alloc: Global, read: KeptRead<'_>, out: &mut Writer) -> Result<(), AllocError>
-    ensures value { OnOk result ((answer : Option Tree) → said read.entry ≡ Some answer
-        → PutsValue (Some answer) out.old.tokens out.new.tokens) }
-    ensures before { out.new.before ≡ out.old.before }
+/// What a member is: its name, and what it has.
+#[derive(Clone, Copy)]
+pub(crate) struct MemberForm<'m> {
+    pub(crate) kind: MemberKind,
+    pub(crate) name: &'m str,
+    pub(crate) fields: &'m [NamedField<'m>],
+}
+
+// The value along a path, in the first record that has one, or in the one whose number the path begins with.
+#[inline(always)]
+fn read_by<'x, A: FoundRecords>(
+    alloc: Global,
+    kind: MemberKind,
+    found: &'x A,
+    path: &[PathElement<'_>],
+) -> Result<Option<Value<'x>>, MaxMindDbError>
+    ensures { IsReadAs (reads_of_kind kind (A.reads found.now) (A.each found.now) path.now)
+        result }
 {
-    match &read.read() {
-        Some(Some(value)) => write_value(alloc, value, out),
-        _ => out.token(Token::Null),
+    match kind {
+        MemberKind::Records => found.read_each(alloc, path),
+        _ => found.read_along(alloc, path),
     }
 }
 
-// Reads the value of a field, by its number and its path, in the records from a number on, and writes it, or null where there
-// is none.
-#[inline(never)]
-fn put_from<'a, R: ReadFields<'a>>(
+// Writes the value along a path, or null where there is none.
+fn put_value<A: FoundRecords>(
     alloc: Global,
-    found: &R,
-    kept: &mut R::Kept,
-    from: usize,
-    field: usize,
+    kind: MemberKind,
+    found: &A,
     path: &[PathElement<'_>],
     out: &mut Writer,
 ) -> Result<(), MaxMindDbError>
-    ensures value { OnOk result ((paths : List (List SpecPathElement))
-        → slice_get paths field ≡ Some path.now → R.keeps found.now paths kept.old
-        → PutsValue (R.reads found.now from path.now) out.old.tokens out.new.tokens) }
-    ensures rejected { IfErr result (λ e. (paths : List (List SpecPathElement))
-        → slice_get paths field ≡ Some path.now → R.keeps found.now paths kept.old
-        → Fails false e (R.reads found.now from path.now)) }
-    ensures kept { (paths : List (List SpecPathElement)) → slice_get paths field ≡ Some path.now
-        → R.keeps found.now paths kept.old → R.keeps found.now paths kept.new }
+    ensures value { OnOk result (PutsValue
+        (reads_of_kind kind (A.reads found.now) (A.each found.now) path.now)
+        out.old.tokens out.new.tokens) }
+    ensures rejected { IfErr result (λ e. Fails false e
+        (reads_of_kind kind (A.reads found.now) (A.each found.now) path.now)) }
     ensures before { out.new.before ≡ out.old.before }
 {
-    match &found.read_field(alloc, kept, from, field, path)? {
+    match &read_by(alloc, kind, found, path)? {
         Some(value) => write_value(alloc, value, out)?,
         None => out.token(Token::Null)?,
     }
     Ok(())
 }
 
-// Writes the value of a field, by its number and its path, or null where there is none.
-fn put_value<'a, R: ReadFields<'a>>(
-    alloc: Global,
-    found: &R,
-    kept: &mut R::Kept,
-    field: usize,
-    path: &[PathElement<'_>],
-    out: &mut Writer,
-) -> Result<(), MaxMindDbError>
-    ensures value { OnOk result ((paths : List (List SpecPathElement))
-        → slice_get paths field ≡ Some path.now → R.keeps found.now paths kept.old
-        → PutsValue (R.reads found.now 0 path.now) out.old.tokens out.new.tokens) }
-    ensures rejected { IfErr result (λ e. (paths : List (List SpecPathElement))
-        → slice_get paths field ≡ Some path.now → R.keeps found.now paths kept.old
-        → Fails false e (R.reads found.now 0 path.now)) }
-    ensures kept { (paths : List (List SpecPathElement)) → slice_get paths field ≡ Some path.now
-        → R.keeps found.now paths kept.old → R.keeps found.now paths kept.new }
-    ensures before { out.new.before ≡ out.old.before }
-{
-    match found.place_of(kept, field) {
-        FieldPlace::Kept(read) => Ok(put_kept(alloc, read, out)?),
-        FieldPlace::Nowhere => Ok(out.token(Token::Null)?),
-        FieldPlace::From(from) => put_from(alloc, found, kept, from, field, path, out),
-    }
-}
-
 // Writes for each field its name, and the value along its path or null.
-fn put_fields<'a, R: ReadFields<'a>>(
+fn put_fields<A: FoundRecords>(
     alloc: Global,
-    found: &R,
-    kept: &mut R::Kept,
+    kind: MemberKind,
+    found: &A,
     fields: &[NamedField<'_>],
     out: &mut Writer,
 ) -> Result<(), MaxMindDbError>
-    requires { R.keeps found.now (paths_in fields.now) kept.old }
-    ensures fields { OnOk result
-        (PutsFields (R.reads found.now 0) fields.now out.old.tokens out.new.tokens) }
-    ensures rejected { IfErr result (λ e.
-        MemoryApart e (HasUnreadField (R.reads found.now 0) fields.now)) }
-    ensures kept { R.keeps found.now (paths_in fields.now) kept.new }
+    ensures fields { OnOk result (PutsFields
+        (reads_of_kind kind (A.reads found.now) (A.each found.now)) fields.now
+        out.old.tokens out.new.tokens) }
+    ensures rejected { IfErr result (λ e. MemoryApart e (HasUnreadField
+        (reads_of_kind kind (A.reads found.now) (A.each found.now)) fields.now)) }
     ensures before { out.new.before ≡ out.old.before }
 {
     for at in 0..fields.len() {
         let field = &fields[at];
         out.token(Token::Key(field.name))?;
-        put_value(alloc, found, kept, at, field.path.as_slice(), out)?;
+        put_value(alloc, kind, found, field.path.as_slice(), out)?;
     }
     Ok(())
 }
@@ -147,170 +125,110 @@ fn put_network(
     }
 }
 
-// Writes a member with the fields.
-fn put_member<'a, R: ReadFields<'a>>(
+// Writes the members before the fields: none, or that of the network.
+fn put_front(
     alloc: Global,
-    found: &R,
-    kept: &mut R::Kept,
-    name: &str,
-    fields: &[NamedField<'_>],
+    kind: MemberKind,
+    network: Option<IpNetwork>,
     out: &mut Writer,
-) -> Result<(), MaxMindDbError>
-    requires { R.keeps found.now (paths_in fields.now) kept.old }
-    ensures member { OnOk result
-        (PutsFieldsOf (R.reads found.now 0) name.now fields.now out.old.tokens out.new.tokens) }
-    ensures rejected { IfErr result (λ e.
-        MemoryApart e (HasUnreadField (R.reads found.now 0) fields.now)) }
-    ensures kept { R.keeps found.now (paths_in fields.now) kept.new }
+) -> Result<(), AllocError>
+    ensures tokens { OnOk result (out.new.tokens ≡ out.old.tokens ++ front_tokens kind network) }
     ensures before { out.new.before ≡ out.old.before }
 {
-    out.token(Token::Key(name))?;
+    match kind {
+        MemberKind::NetworkAndFields => put_network(alloc, network, out),
+        _ => Ok(()),
+    }
+}
+
+// Writes a member with the fields, after others.
+fn put_member<A: FoundRecords>(
+    alloc: Global,
+    form: MemberForm<'_>,
+    found: &A,
+    network: Option<IpNetwork>,
+    out: &mut Writer,
+) -> Result<(), MaxMindDbError>
+    ensures member { OnOk result (PutsFieldsAfter (front_tokens form.entry.kind network)
+        (reads_of_kind form.entry.kind (A.reads found.now) (A.each found.now))
+        form.entry.name.now form.entry.fields.now out.old.tokens out.new.tokens) }
+    ensures rejected { IfErr result (λ e. MemoryApart e (HasUnreadField
+        (reads_of_kind form.entry.kind (A.reads found.now) (A.each found.now))
+        form.entry.fields.now)) }
+    ensures before { out.new.before ≡ out.old.before }
+{
+    out.token(Token::Key(form.name))?;
     out.token(Token::BeginObject)?;
-    put_fields(alloc, found, kept, fields, out)?;
+    put_front(alloc, form.kind, network, out)?;
+    put_fields(alloc, form.kind, found, form.fields, out)?;
     out.token(Token::EndObject)?;
     Ok(())
 }
 
 // Writes a member with all that is read.
-fn put_whole<'a, R: ReadFields<'a>>(
+fn put_whole<A: FoundRecords>(
     alloc: Global,
-    found: &R,
-    name: &str,
+    form: MemberForm<'_>,
+    found: &A,
     out: &mut Writer,
 ) -> Result<(), MaxMindDbError>
-    ensures whole { OnOk result
-        (PutsWhole (R.reads found.now 0) name.now out.old.tokens out.new.tokens) }
-    ensures rejected { IfErr result (λ e. Fails false e (R.reads found.now 0 [])) }
+    ensures whole { OnOk result (PutsWhole
+        (reads_of_kind form.entry.kind (A.reads found.now) (A.each found.now))
+        form.entry.name.now out.old.tokens out.new.tokens) }
+    ensures rejected { IfErr result (λ e. Fails false e
+        (reads_of_kind form.entry.kind (A.reads found.now) (A.each found.now) [])) }
     ensures before { out.new.before ≡ out.old.before }
 {
-    out.token(Token::Key(name))?;
-    match &found.read_all(alloc)? {
-        Some(value) => write_value(alloc, value, out)?,
-        None => out.token(Token::Null)?,
-    }
-    Ok(())
+    out.token(Token::Key(form.name))?;
+    put_value(alloc, form.kind, found, &[], out)
 }
 
-// Writes a member with the fields, or, without a field, with all that is read.
-fn put_values<'a, R: ReadFields<'a>>(
+// Writes a member with the fields after others, or, without a field, with all that is read.
+fn put_values<A: FoundRecords>(
     alloc: Global,
-    found: &R,
-    kept: &mut R::Kept,
-    name: &str,
-    fields: &[NamedField<'_>],
+    form: MemberForm<'_>,
+    found: &A,
+    network: Option<IpNetwork>,
     out: &mut Writer,
 ) -> Result<(), MaxMindDbError>
-    requires { R.keeps found.now (paths_in fields.now) kept.old }
-    ensures member { OnOk result (PutsValuesAfter [] (R.reads found.now 0) name.now fields.now
-        out.old.tokens out.new.tokens) }
-    ensures rejected { IfErr result (λ e.
-        MemoryApart e (IsUnread (R.reads found.now 0) fields.now)) }
-    ensures kept { R.keeps found.now (paths_in fields.now) kept.new }
+    ensures member { OnOk result (PutsValuesAfter (front_tokens form.entry.kind network)
+        (reads_of_kind form.entry.kind (A.reads found.now) (A.each found.now))
+        form.entry.name.now form.entry.fields.now out.old.tokens out.new.tokens) }
+    ensures rejected { IfErr result (λ e. MemoryApart e (IsUnread
+        (reads_of_kind form.entry.kind (A.reads found.now) (A.each found.now))
+        form.entry.fields.now)) }
     ensures before { out.new.before ≡ out.old.before }
 {
-    if fields.is_empty() {
-        put_whole(alloc, found, name, out)
+    if form.fields.is_empty() {
+        put_whole(alloc, form, found, out)
     } else {
-        put_member(alloc, found, kept, name, fields, out)
+        put_member(alloc, form, found, network, out)
     }
 }
 
-/// The text of a member with fields, or, without a field, with all that is read; none where something of it failed.
-pub(crate) fn member_of<'a, R: ReadFields<'a>>(
+/// Puts the text of a member in place of nothing. It stays so where something of it can't be read.
+pub(crate) fn put_member_text<A: FoundRecords>(
     alloc: Global,
-    found: &R,
-    kept: &mut R::Kept,
-    name: &str,
-    fields: &[NamedField<'_>],
-) -> Result<Option<Vec<u8>>, AllocError>
-    requires { R.keeps found.now (paths_in fields.now) kept.old }
-    ensures some { IfOk result (λ member. IfSome member (λ text.
-        IsMember (R.reads found.now 0) name.now fields.now text.items)) }
-    ensures none { IfOk result (λ member.
-        IfNone member (IsUnread (R.reads found.now 0) fields.now)) }
-    ensures kept { R.keeps found.now (paths_in fields.now) kept.new }
+    form: MemberForm<'_>,
+    found: &A,
+    network: Option<IpNetwork>,
+    text: &mut Vec<u8>,
+) -> Result<Outcome, AllocError>
+    requires { text.old.items ≡ [] }
+    ensures { IfOk result (MemberAfter (front_tokens form.entry.kind network)
+        (reads_of_kind form.entry.kind (A.reads found.now) (A.each found.now))
+        form.entry.name.now form.entry.fields.now text.new.items) }
 {
-    let mut out = Writer::new(Vec::with_capacity(alloc, 256)?);
-    match put_values(alloc, found, kept, name, fields, &mut out) {
-        Ok(()) => Ok(Some(out.into_inner())),
+    let mut out = Writer::new(mem::replace(text, Vec::new(alloc)));
+    let done = put_values(alloc, form, found, network, &mut out);
+    *text = out.into_inner();
+    match done {
+        Ok(()) => Ok(Outcome::Found),
         Err(MaxMindDbError::Memory) => Err(AllocError),
-        Err(_) => Ok(None),
-    }
-}
-
-// Writes a member with a network and the fields.
-fn put_network_member<'a, R: ReadFields<'a>>(
-    alloc: Global,
-    network: Option<IpNetwork>,
-    found: &R,
-    kept: &mut R::Kept,
-    name: &str,
-    fields: &[NamedField<'_>],
-    out: &mut Writer,
-) -> Result<(), MaxMindDbError>
-    requires { R.keeps found.now (paths_in fields.now) kept.old }
-    ensures member { OnOk result (PutsFieldsAfter (network_tokens network) (R.reads found.now 0)
-        name.now fields.now out.old.tokens out.new.tokens) }
-    ensures rejected { IfErr result (λ e.
-        MemoryApart e (HasUnreadField (R.reads found.now 0) fields.now)) }
-    ensures kept { R.keeps found.now (paths_in fields.now) kept.new }
-    ensures before { out.new.before ≡ out.old.before }
-{
-    out.token(Token::Key(name))?;
-    out.token(Token::BeginObject)?;
-    put_network(alloc, network, out)?;
-    put_fields(alloc, found, kept, fields, out)?;
-    out.token(Token::EndObject)?;
-    Ok(())
-}
-
-// Writes a member with a network and the fields, or, without a field, with all that is read.
-fn put_network_values<'a, R: ReadFields<'a>>(
-    alloc: Global,
-    network: Option<IpNetwork>,
-    found: &R,
-    kept: &mut R::Kept,
-    name: &str,
-    fields: &[NamedField<'_>],
-    out: &mut Writer,
-) -> Result<(), MaxMindDbError>
-    requires { R.keeps found.now (paths_in fields.now) kept.old }
-    ensures member { OnOk result (PutsValuesAfter (network_tokens network) (R.reads found.now 0)
-        name.now fields.now out.old.tokens out.new.tokens) }
-    ensures rejected { IfErr result (λ e.
-        MemoryApart e (IsUnread (R.reads found.now 0) fields.now)) }
-    ensures kept { R.keeps found.now (paths_in fields.now) kept.new }
-    ensures before { out.new.before ≡ out.old.before }
-{
-    if fields.is_empty() {
-        put_whole(alloc, found, name, out)
-    } else {
-        put_network_member(alloc, network, found, kept, name, fields, out)
-    }
-}
-
-/// The text of a member with a network and fields, or, without a field, with all that is read; none where something of it
-/// failed.
-pub(crate) fn network_member_of<'a, R: ReadFields<'a>>(
-    alloc: Global,
-    network: Option<IpNetwork>,
-    found: &R,
-    kept: &mut R::Kept,
-    name: &str,
-    fields: &[NamedField<'_>],
-) -> Result<Option<Vec<u8>>, AllocError>
-    requires { R.keeps found.now (paths_in fields.now) kept.old }
-    ensures some { IfOk result (λ member. IfSome member (λ text. IsMemberAfter
-        (network_tokens network) (R.reads found.now 0) name.now fields.now text.items)) }
-    ensures none { IfOk result (λ member.
-        IfNone member (IsUnread (R.reads found.now 0) fields.now)) }
-    ensures kept { R.keeps found.now (paths_in fields.now) kept.new }
-{
-    let mut out = Writer::new(Vec::with_capacity(alloc, 256)?);
-    match put_network_values(alloc, network, found, kept, name, fields, &mut out) {
-        Ok(()) => Ok(Some(out.into_inner())),
-        Err(MaxMindDbError::Memory) => Err(AllocError),
-        Err(_) => Ok(None),
+        Err(_) => {
+            text.clear();
+            Ok(Outcome::Failed)
+        }
     }
 }
 
@@ -327,63 +245,43 @@ fn put_nulls(fields: &[NamedField<'_>], out: &mut Writer) -> Result<(), AllocErr
     Ok(())
 }
 
-// Writes an object with every field null, or, without a field, null itself.
-fn put_null_values(fields: &[NamedField<'_>], out: &mut Writer) -> Result<(), AllocError>
-    ensures values { OnOk result (out.new.tokens ≡ out.old.tokens ++ null_values [] fields.now) }
-    ensures before { out.new.before ≡ out.old.before }
-{
-    if fields.is_empty() {
-        return out.token(Token::Null);
-    }
-    out.token(Token::BeginObject)?;
-    put_nulls(fields, out)?;
-    out.token(Token::EndObject)
-}
-
-/// The text of a member with every field null, or, without a field, null itself.
-pub(crate) fn null_member(
+// Writes an object with every field null, after others, or, without a field, null itself.
+fn put_null_values(
     alloc: Global,
-    name: &str,
-    fields: &[NamedField<'_>],
-) -> Result<Vec<u8>, AllocError>
-    ensures { IfOk result (λ text. IsNullMember name.now fields.now text.items) }
-{
-    let mut out = Writer::new(Vec::with_capacity(alloc, 256)?);
-    out.token(Token::Key(name))?;
-    put_null_values(fields, &mut out)?;
-    Ok(out.into_inner())
-}
-
-// Writes an object with no network and every field null, or, without a field, null itself.
-fn put_null_network_values(
-    alloc: Global,
+    kind: MemberKind,
     fields: &[NamedField<'_>],
     out: &mut Writer,
 ) -> Result<(), AllocError>
-    ensures values { OnOk result
-        (out.new.tokens ≡ out.old.tokens ++ null_values (network_tokens None) fields.now) }
+    ensures values { OnOk result (out.new.tokens
+        ≡ out.old.tokens ++ null_values (front_tokens kind None) fields.now) }
     ensures before { out.new.before ≡ out.old.before }
 {
     if fields.is_empty() {
         return out.token(Token::Null);
     }
     out.token(Token::BeginObject)?;
-    put_network(alloc, None, out)?;
+    put_front(alloc, kind, None, out)?;
     put_nulls(fields, out)?;
     out.token(Token::EndObject)
 }
 
-/// The text of a member with a network and every field null, or, without a field, null itself.
-pub(crate) fn null_network_member(
-    alloc: Global,
-    name: &str,
-    fields: &[NamedField<'_>],
-) -> Result<Vec<u8>, AllocError>
-    ensures { IfOk result (λ text.
-        IsNullMemberAfter (network_tokens None) name.now fields.now text.items) }
+// The fields that are null without a record: none where the records are wanted, since all of the member is null then.
+fn null_fields_of<'m>(form: MemberForm<'m>) -> &'m [NamedField<'m>]
+    ensures { result.now ≡ nulls_of form.entry.kind form.entry.fields.now }
+{
+    match form.kind {
+        MemberKind::Records => &[],
+        _ => form.fields,
+    }
+}
+
+/// The text of a member of which everything is null.
+pub(crate) fn null_member(alloc: Global, form: MemberForm<'_>) -> Result<Vec<u8>, AllocError>
+    ensures { IfOk result (λ text. IsNullMemberAfter (front_tokens form.entry.kind None)
+        form.entry.name.now (nulls_of form.entry.kind form.entry.fields.now) text.items) }
 {
     let mut out = Writer::new(Vec::with_capacity(alloc, 256)?);
-    out.token(Token::Key(name))?;
-    put_null_network_values(alloc, fields, &mut out)?;
+    out.token(Token::Key(form.name))?;
+    put_null_values(alloc, form.kind, null_fields_of(form), &mut out)?;
     Ok(out.into_inner())
 }

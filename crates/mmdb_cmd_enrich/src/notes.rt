@@ -1,10 +1,9 @@
 //! What is noted of the records that are read, so that it can be said at the end what was amiss.
 use crate::asked::asked_of;
 use crate::cache::Keeping;
-use crate::layers::{Layers, can_ask_any, offset_of};
-use mmdb_found::value_along;
-use mmdb_layout::ReadAlong;
-use mmdb_reader::{LookupResult, MaxMindDbError, PathElement, Reader};
+use crate::layers::can_ask_any;
+use mmdb_reader::{MaxMindDbError, Reader};
+use mmdb_value::Value;
 use std::alloc::{AllocError, Global};
 use std::convert::AsSlice;
 use std::net::IpAddr;
@@ -74,7 +73,7 @@ fn cause_of(
 
 impl Notes {
     /// Of no record.
-    pub(crate) fn new(alloc: Global) -> Notes {
+    pub fn new(alloc: Global) -> Notes {
         Notes {
             rows: 0,
             unasked: 0,
@@ -151,27 +150,15 @@ impl Notes {
         }
     }
 
-    /// Notes the records of several databases.
-    pub(crate) fn note_records<S: AsSlice<u8> + Drop>(&mut self, layers: &Layers<'_, S>) {
-        if self.records.len() >= MOST_RECORDS {
-            return;
-        }
-        for (at, answer) in layers.answers.iter().enumerate() {
-            if let Some(offset) = offset_of(answer) {
-                self.note_record(at, offset);
-            }
-        }
-    }
-
-    // Whether a record had a value at a field.
+    /// Whether a record had a value at a field.
     #[inline(always)]
-    fn has_met(&self, field: usize) -> bool {
+    pub(crate) fn has_met(&self, field: usize) -> bool {
         field < self.met.len() && self.met[field]
     }
 
-    /// Whether records had a value at each of so many fields.
+    // Whether records had a value at each of so many fields.
     #[inline(always)]
-    pub(crate) fn has_met_all(&self, fields: usize) -> bool {
+    fn has_met_all(&self, fields: usize) -> bool {
         for field in 0..fields {
             if !self.has_met(field) {
                 return false;
@@ -186,19 +173,20 @@ impl Notes {
         self.records.len() >= MOST_RECORDS && self.has_met_all(fields)
     }
 
-    /// Whether rows with records that were read so are named no more.
+    // Whether rows with records that were read so are named no more.
     #[inline(always)]
-    pub(crate) fn is_said(&self, are_read: bool) -> bool {
+    fn is_said(&self, are_read: bool) -> bool {
         are_read || self.have_all_failures()
     }
 
-    /// Whether cells of so many fields are kept: not where rows with such records are still named, and always where it takes long
-    /// to make them: where they are many, one of them was not read or a value not kept, or the next records are noted too.
+    /// Whether the text of so many fields is kept, or of a whole record where there is none: not where rows with such records are
+    /// still named, and always where it takes long to make it: where the fields are not few, one of them was not read, or the next
+    /// records are noted too.
     #[inline(always)]
-    pub(crate) fn keeping(&self, fields: usize, are_read: bool, are_kept: bool) -> Keeping {
+    pub(crate) fn keeping(&self, fields: usize, are_read: bool) -> Keeping {
         if !self.is_said(are_read) {
             Keeping::Never
-        } else if fields > FEW || !are_read || !are_kept || !self.are_full(fields) {
+        } else if fields == 0 || fields > FEW || !are_read || !self.are_full(fields) {
             Keeping::Always
         } else {
             Keeping::IfWorth
@@ -218,76 +206,25 @@ impl Notes {
         Ok(())
     }
 
-    /// Notes whether a record has a value at a field, and why that can't be read. Where all of a record was read, a field
-    /// at which a record had a value is not read again.
+    /// Notes what was read of a field in the database of a name, if it has one. Whether that ends the reading: there is a value, or
+    /// it can't be read.
     #[inline(never)]
-    pub(crate) fn note_field<S: AsSlice<u8> + Drop>(
+    pub(crate) fn note_read(
         &mut self,
         alloc: Global,
-        found: &LookupResult<'_, S>,
+        name: Option<&str>,
         field: usize,
-        path: &[PathElement<'_>],
-        are_read: bool,
-    ) {
-        if are_read && self.has_met(field) {
-            return;
-        }
-        match value_along(alloc, found, path) {
+        read: &Result<Option<Value<'_>>, MaxMindDbError>,
+    ) -> bool {
+        match read {
             Ok(Some(_)) => {
                 let _ = self.note_met(field);
+                true
             }
-            Ok(None) => {}
-            Err(error) => self.note_failure(alloc, None, &error),
-        }
-    }
-
-    /// Notes whether the records of several databases have a value at a field, and in which of them that can't be read.
-    /// Where all of them were read, a field at which a record had a value is not read again.
-    #[inline(never)]
-    pub(crate) fn note_layered<S: AsSlice<u8> + Drop>(
-        &mut self,
-        alloc: Global,
-        names: &[&str],
-        layers: &Layers<'_, S>,
-        field: usize,
-        path: &[PathElement<'_>],
-        are_read: bool,
-    ) {
-        if are_read && self.has_met(field) {
-            return;
-        }
-        for (at, answer) in layers.answers.iter().enumerate() {
-            let Some(found) = answer else {
-                continue;
-            };
-            match found.read_along(alloc, path) {
-                Ok(Some(_)) => {
-                    let _ = self.note_met(field);
-                    return;
-                }
-                Ok(None) => {}
-                Err(error) => return self.note_failure(alloc, names.get(at).copied(), &error),
-            }
-        }
-    }
-
-    /// Notes in which of several databases the record of this row can't be read, where one can't.
-    #[inline(never)]
-    pub(crate) fn note_unread<S: AsSlice<u8> + Drop>(
-        &mut self,
-        alloc: Global,
-        names: &[&str],
-        layers: &Layers<'_, S>,
-        are_read: bool,
-    ) {
-        if are_read {
-            return;
-        }
-        for (at, answer) in layers.answers.iter().enumerate() {
-            if let Some(found) = answer
-                && let Err(error) = found.read_along(alloc, &[])
-            {
-                return self.note_failure(alloc, names.get(at).copied(), &error);
+            Ok(None) => false,
+            Err(error) => {
+                self.note_failure(alloc, name, error);
+                true
             }
         }
     }

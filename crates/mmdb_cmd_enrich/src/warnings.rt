@@ -1,18 +1,14 @@
 //! What is said of rows besides how they fared.
 use crate::fields::AskedField;
-use crate::json_enrichment::JsonMemory;
-use crate::layered_enrichment::LayeredMemory;
-use crate::layered_json_enrichment::LayeredJsonMemory;
+use crate::memory::EnrichMemory;
 use crate::missing::fields_met;
 use crate::notes::Notes as Records;
-use crate::row_memory::RowMemory;
 use mmdb_arguments::EnrichArguments;
 use mmdb_console::{Console, DONE, FAILED, line_of};
 use mmdb_filter::{Counts, Rows};
 use mmdb_layout::{Database, RecordAt, absent_text};
 use mmdb_reader::MaxMindDbError;
 use std::alloc::{AllocError, Global};
-use std::convert::AsSlice;
 use std::io::Write;
 
 /// Of this many fields it is said that no record has them.
@@ -36,43 +32,13 @@ pub(crate) trait Remembering {
     fn records_mut(&mut self) -> &mut Records;
 }
 
-impl Remembering for RowMemory {
+impl<R, M> Remembering for EnrichMemory<R, M> {
     fn records(&self) -> &Records {
-        &self.notes
+        &self.kept.notes
     }
 
     fn records_mut(&mut self) -> &mut Records {
-        &mut self.notes
-    }
-}
-
-impl<S: AsSlice<u8> + Drop> Remembering for LayeredMemory<'_, S> {
-    fn records(&self) -> &Records {
-        &self.notes
-    }
-
-    fn records_mut(&mut self) -> &mut Records {
-        &mut self.notes
-    }
-}
-
-impl Remembering for JsonMemory {
-    fn records(&self) -> &Records {
-        &self.notes
-    }
-
-    fn records_mut(&mut self) -> &mut Records {
-        &mut self.notes
-    }
-}
-
-impl<S: AsSlice<u8> + Drop> Remembering for LayeredJsonMemory<'_, S> {
-    fn records(&self) -> &Records {
-        &self.notes
-    }
-
-    fn records_mut(&mut self) -> &mut Records {
-        &mut self.notes
+        &mut self.kept.notes
     }
 }
 

@@ -11,19 +11,26 @@ use std::time::Clock;
 /// Of this many rows it is said that they stay in quotes.
 const MOST_SAID: u64 = 10;
 
+/// Which rows are watched.
+#[derive(Clone, Copy)]
+pub(crate) struct WatchedRows {
+    /// How many bytes the input has, where that is known.
+    pub(crate) size: Option<u64>,
+    /// Whether rows end once where that is asked first.
+    pub(crate) stops: bool,
+    pub(crate) is_quiet: bool,
+    /// How many rows are before the first one of the filter.
+    pub(crate) before: u64,
+}
+
 /// How many rows passed is shown on a terminal. Rows that stay in quotes are warned of.
 #[derive(Drop)]
 pub(crate) struct Watch<'e, E: Pace, R: Files + Clock> {
     alloc: Global,
     line: ProgressLine<'e, E>,
-    /// How many bytes of the input passed, and how many it has where that is known.
+    rows: WatchedRows,
+    /// How many bytes of the input passed.
     bytes: &'e Cell<u64>,
-    size: Option<u64>,
-    /// Whether rows end once where that is asked first.
-    stops: bool,
-    is_quiet: bool,
-    /// How many rows are before the first one of the filter.
-    before: u64,
     /// Where it ends because a file was replaced.
     lookout: &'e mut Lookout,
     rt: &'e R,
@@ -39,22 +46,16 @@ impl<'e, E: Pace, R: Files + Clock> Watch<'e, E, R> {
     pub(crate) fn new(
         alloc: Global,
         line: ProgressLine<'e, E>,
+        rows: WatchedRows,
         bytes: &'e Cell<u64>,
-        size: Option<u64>,
-        stops: bool,
-        is_quiet: bool,
-        before: u64,
         lookout: &'e mut Lookout,
         rt: &'e R,
     ) -> Watch<'e, E, R> {
         Watch {
             alloc,
             line,
+            rows,
             bytes,
-            size,
-            stops,
-            is_quiet,
-            before,
             lookout,
             rt,
             quoted: 0,
@@ -65,7 +66,7 @@ impl<'e, E: Pace, R: Files + Clock> Watch<'e, E, R> {
 
     // The number of the row after `rows` others.
     fn number(&self, rows: u64) -> u64 {
-        rows.saturating_add(self.before).saturating_add(1)
+        rows.saturating_add(self.rows.before).saturating_add(1)
     }
 
     /// Takes what is shown on a terminal away again.
@@ -77,16 +78,16 @@ impl<'e, E: Pace, R: Files + Clock> Watch<'e, E, R> {
 impl<'e, E: Pace, R: Files + Clock> Progress for Watch<'e, E, R> {
     ghost use Rattle.std.specs.Prelude.{◌≡◌, ◌⊎◌, true};
 
-    ghost ends = { λ watch. (watch.stops ≡ true) ⊎ (watch.lookout.now.has_seen ≡ true) };
+    ghost ends = { λ watch. (watch.rows.stops ≡ true) ⊎ (watch.lookout.now.has_seen ≡ true) };
 
     fn passed(&mut self, counts: Counts) -> bool {
-        if self.stops {
+        if self.rows.stops {
             return false;
         }
         self.line.passed(Passed {
             count: counts.total().unwrap_or(u64::MAX),
             bytes: Some(self.bytes.get()),
-            size: self.size,
+            size: self.rows.size,
         });
         true
     }
@@ -97,7 +98,7 @@ impl<'e, E: Pace, R: Files + Clock> Progress for Watch<'e, E, R> {
 
     fn stays_quoted(&mut self, rows: u64, is_long: bool) {
         self.quoted = self.quoted.saturating_add(1);
-        if self.is_quiet || self.quoted > MOST_SAID {
+        if self.rows.is_quiet || self.quoted > MOST_SAID {
             return;
         }
         let row = self.number(rows);

@@ -1,3 +1,2 @@
-mod ChosenLaws
 mod GatheredLaws
 mod ListedLaws

@@ -1,4 +1,4 @@
--- What is written of a list whose addresses were gathered first.
+-- What is written of lists.
 use Rattle.std.proofs.Common.{◌≡◌, ◌∙◌, ℕ, ◌-◌, ◌^◌, ◌<◌, Bool, true, false, List, [], ◌∷◌, ◌++◌, nat_eq, if◌then◌else◌, Option, None, Some, Result, Ok, Err, OnOk, IfErr, refl, sym, ap, subst, append_assoc, append-nil, inl, inr, arith}
 use Rattle.std.proofs.lemmas.Nat.{pow_pos}
 use Rattle.std.proofs.lemmas.Bool.{false≢true}
@@ -22,7 +22,9 @@ use Rattle.mmdb_blocks.specs.declared.syntax.Syntax.{Syntax}
 use Rattle.mmdb_console.specs.declared.error.ProgramError.{ProgramError}
 use Rattle.mmdb_console.specs.declared.error.ProgramError.TheVariants.{Arguments, Database, Write, Read, NoColumn, LongHeader, OutOfOrder, EmptyList, Memory}
 use Rattle.mmdb_cmd_export.specs.Gathered.{IsListedOf}
-use Rattle.mmdb_cmd_export.specs.Listed.{AreFewestWanted, IsListText, HasAddress, ListFails, may_be_empty_of, ArePushed, PushesListed, EndsList, IsFinished, MayEnd, EndFails, list_result}
+use Rattle.mmdb_cmd_export.specs.Listed.{AreFewestWanted, IsListText, HasAddress, ListFails, IsListOf, may_be_empty_of, ArePushed, PushesListed, EndsList, IsFinished, MayEnd, EndFails, list_result}
+use Rattle.mmdb_query.specs.Taking.{Asked, Runs, Takes}
+use Rattle.mmdb_query.specs.Walks.{Item}
 use Rattle.mmdb_query.specs.declared.addresses.Addresses.{Addresses as Chosen}
 use Rattle.mmdb_cmd_export.specs.declared.gathering.Adjustment.{Adjustment}
 use Rattle.mmdb_cmd_export.specs.declared.task.ExportTask.{ExportTask}
@@ -441,3 +443,27 @@ module _ (syntax : Syntax) (kinds : Kinds) (chosen : Chosen) (adjustment : Adjus
         → IfErr r (EndFails new may c d) → IfErr r (ListFails task chosen adjustment a d)
     list-fails d (Ok x) task may same is h = tt
     list-fails d (Err e) task may same is h = fails d task may e same is h
+
+-- ---- a list that is written while networks come
+
+pub list-written : (comes : List Item → Type 0) (a : Asked Listing) (syntax : Syntax) (kinds : Kinds) (old new : Listing) (unread : ℕ) (whole : Bool) (r : Result (Unit {0}) ProgramError)
+    (before at after : Option (List ℕ)) → old ≡ no_networks syntax kinds Fill → whole ≡ nat_eq unread 0 → Takes comes a old new before at unread
+    → OnOk r (Prints (IsFinished new whole) at after) → OnOk r (Prints (IsListOf comes a syntax kinds) before after)
+list-written comes a syntax kinds old new unread whole (Ok x) before at after start is takes (ending, ended, written) = (
+  takes.text ++ ending,
+  record {
+    items = takes.items;
+    put = takes.put;
+    unread = unread;
+    lines = takes.text;
+    list = new;
+    ending = ending;
+    come = takes.come;
+    picked = takes.picked;
+    ran = subst (λ (l : Listing). Runs a.puts takes.put l takes.text new) start takes.ran;
+    ended = subst (λ (w : Bool). IsFinished new w ending) is ended;
+    text_is = refl;
+  },
+  Appends-trans before at after takes.text ending takes.written written,
+)
+list-written comes a syntax kinds old new unread whole (Err e) before at after start is takes h = tt

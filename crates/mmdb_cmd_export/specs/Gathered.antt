@@ -5,6 +5,7 @@ use Rattle.mmdb_blocks.specs.declared.kind.BlockKind.{BlockKind}
 use Rattle.mmdb_blocks.specs.declared.kind.BlockKind.TheVariants.{Ipv4, Ipv6}
 use Rattle.mmdb_layout.specs.Conditions.{SaysAllMetBy, HasUnreadBy}
 use Rattle.mmdb_layout.specs.declared.condition.Condition.{Condition}
+use Rattle.mmdb_query.specs.Ends.{leaves_none}
 use Rattle.mmdb_query.specs.Reading.{outlines_of}
 use Rattle.mmdb_query.specs.Rows.{nothing}
 use Rattle.mmdb_query.specs.Sets.{puts_addresses, needs_nothing}
@@ -19,6 +20,7 @@ gathered_of conditions s = record {
   unsaid = λ offsets. HasUnreadBy conditions (outlines_of s offsets);
   puts = puts_addresses nothing s;
   unput = needs_nothing nothing s;
+  leaves = leaves_none nothing s;
 }
 
 -- an address of IPv4 that a chosen network of IPv6 has

@@ -1,5 +1,4 @@
 -- What has to be believed: what contracts name.
 pub mod Gathered
-pub mod Chosen
 pub mod Written
 pub mod Listed

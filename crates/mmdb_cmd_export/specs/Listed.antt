@@ -1,5 +1,5 @@
--- What is written of a list whose addresses were gathered first.
-use Rattle.std.specs.Prelude.{◌≡◌, ◌<◌, ◌^◌, ◌⊎◌, ◌↔◌, ◌||◌, Bool, true, false, ℕ, List, [], ◌++◌, Option, Result, Ok, Err}
+-- What is written of lists.
+use Rattle.std.specs.Prelude.{◌≡◌, ◌<◌, ◌^◌, ◌⊎◌, ◌↔◌, ◌||◌, Bool, true, false, ℕ, List, [], ◌++◌, Option, Result, Ok, Err, nat_eq}
 use Rattle.std.specs.Io.KnownBytes.{Appends}
 use Rattle.mmdb_blocks.specs.Blocks.{IsIn, IsJoined}
 use Rattle.mmdb_blocks.specs.Kinds.{IsWanted}
@@ -19,6 +19,15 @@ use Rattle.mmdb_blocks.specs.declared.syntax.Syntax.{Syntax}
 use Rattle.mmdb_blocks.specs.declared.syntax.Syntax.TheVariants.{Cidr}
 use Rattle.mmdb_console.specs.declared.error.ProgramError.{ProgramError}
 use Rattle.mmdb_console.specs.declared.error.ProgramError.TheVariants.{Write, OutOfOrder, EmptyList, Memory}
+use Rattle.mmdb_layout.specs.Conditions.{SaysAllMetBy, HasUnreadBy}
+use Rattle.mmdb_layout.specs.declared.condition.Condition.{Condition}
+use Rattle.mmdb_query.specs.Had.{Had}
+use Rattle.mmdb_query.specs.Listings.{puts_listed, leaves_listed}
+use Rattle.mmdb_query.specs.Reading.{outlines_of}
+use Rattle.mmdb_query.specs.Rows.{nothing}
+use Rattle.mmdb_query.specs.Sets.{needs_nothing}
+use Rattle.mmdb_query.specs.Taking.{Asked, ArePicked, Runs}
+use Rattle.mmdb_query.specs.Walks.{Item}
 use Rattle.mmdb_cmd_export.specs.Gathered.{IsListedOf}
 use Rattle.mmdb_query.specs.declared.addresses.Addresses.{Addresses as Chosen}
 use Rattle.mmdb_cmd_export.specs.declared.gathering.Adjustment.{Adjustment}
@@ -104,6 +113,33 @@ EndFails list may_be_empty before after EmptyList =
 EndFails list may_be_empty before after Memory = Unit {0}
 EndFails list may_be_empty before after (Write e) = Unit {0}
 EndFails list may_be_empty before after _ = ⊥
+
+-- ---- lists that are written while networks come
+
+-- what is asked of the records at offsets of these data sections: whether they meet all conditions; and what a list prints
+abbrev pub listed_of : List Condition → List (List ℕ) → Asked Listing
+listed_of conditions s = record {
+  says = λ offsets b. SaysAllMetBy conditions (outlines_of s offsets) b;
+  unsaid = λ offsets. HasUnreadBy conditions (outlines_of s offsets);
+  puts = puts_listed nothing s;
+  unput = needs_nothing nothing s;
+  leaves = leaves_listed nothing s;
+}
+
+-- The text of what a list prints of the networks that are put of those that come, one after another, from a list without networks;
+-- and of what is left then and what ends it, by which it is whole where each could be read.
+pub record IsListOf (comes : List Item → Type 0) (a : Asked Listing) (syntax : Syntax) (kinds : Kinds) (text : List ℕ) : Type 0 where
+  pub items : List Item
+  pub put : List Had
+  pub unread : ℕ
+  pub lines : List ℕ
+  pub list : Listing
+  pub ending : List ℕ
+  pub come : comes items
+  pub picked : ArePicked a items put unread
+  pub ran : Runs a.puts put (no_networks syntax kinds Fill) lines list
+  pub ended : IsFinished list (nat_eq unread 0) ending
+  pub text_is : text ≡ lines ++ ending
 
 -- ---- errors
 

@@ -2,7 +2,7 @@
 use Rattle.std.specs.Prelude.{ℕ, List, Option}
 use Rattle.mmdb_layout.specs.Conditions.{SaysAllMetBy, HasUnreadBy}
 use Rattle.mmdb_layout.specs.declared.condition.Condition.{Condition}
-use Rattle.mmdb_query.specs.Ends.{EndsBy}
+use Rattle.mmdb_query.specs.Ends.{leaves_none, EndsBy}
 use Rattle.mmdb_query.specs.Reading.{outlines_of}
 use Rattle.mmdb_query.specs.Rows.{IsRow, nothing}
 use Rattle.mmdb_query.specs.Taking.{Asked, Takes}
@@ -18,6 +18,7 @@ asked_of conditions columns s = record {
   unsaid = λ offsets. HasUnreadBy conditions (outlines_of s offsets);
   puts = λ had old text new. IsRow (front_of columns.form) (λ offsets tail. IsTail columns.form (readings_of s offsets) columns.columns.items tail) had text;
   unput = λ offsets. AnyUnread (readings_of s offsets) columns.columns.items;
+  leaves = leaves_none columns s;
 }
 
 -- Of what comes the rows of the networks were written that meet all conditions, in order and nothing else, and so many can't be

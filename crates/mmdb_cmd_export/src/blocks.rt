@@ -1,24 +1,11 @@
-//! Lists of the fewest blocks.
+//! The end of lists of the fewest blocks.
 ghost use Rattle.std.specs.Prelude.{◌≡◌, OnOk, IfErr};
 ghost use Rattle.mmdb_blocks.specs.Lists.{listing_of, Prints};
 ghost use Rattle.mmdb_cmd_export.specs.Listed.{list_result, IsFinished, MayEnd, EndFails};
 
-use crate::clip::Clip;
-use mmdb_blocks::{BlockKind, BlocksError, Kinds, List, Syntax, Taken};
+use mmdb_blocks::{BlocksError, List};
 use mmdb_console::ProgramError;
-use mmdb_layout::Found;
-use mmdb_reader::IpNetwork;
-use std::alloc::Global;
 use std::io::Write;
-
-/// A list of the fewest blocks that have the addresses of the networks.
-#[derive(Drop)]
-pub(crate) struct Blocks<'a> {
-    list: List<'a>,
-    clip: Clip,
-    /// Whether there may be no networks.
-    may_be_empty: bool,
-}
 
 /// What a list answered, as the program reports it.
 #[inline(always)]
@@ -56,67 +43,5 @@ pub(crate) fn end_list<O: Write>(
         of_list(list.end(out))
     } else {
         of_list(list.break_off(out))
-    }
-}
-
-impl<'a> Blocks<'a> {
-    /// A list of no networks yet, which has no address outside a range. Nothing is written before the first block.
-    pub(crate) fn new(
-        alloc: Global,
-        syntax: Syntax<'a>,
-        kinds: Kinds,
-        range: Option<IpNetwork>,
-        may_be_empty: bool,
-    ) -> Result<Blocks<'a>, ProgramError> {
-        Ok(Blocks {
-            list: List::new(alloc, syntax, kinds)?,
-            clip: Clip::to(range),
-            may_be_empty,
-        })
-    }
-
-    // Writes the blocks that nothing can join any more.
-    #[inline(never)]
-    fn write_settled<O: Write>(&mut self, out: &mut O) -> Result<bool, ProgramError> {
-        of_list(self.list.write_settled(out))?;
-        Ok(true)
-    }
-
-    /// Takes a network where no memory is needed, as for most. They come ascending. Whether it was taken; else `put` takes it.
-    #[inline(always)]
-    pub(crate) fn take<O: Write>(
-        &mut self,
-        found: &Found<'_>,
-        out: &mut O,
-    ) -> Result<bool, ProgramError> {
-        let (kind, block) = self.clip.part_of(found);
-        match self.list.take(kind, block) {
-            Taken::Whole => Ok(true),
-            Taken::Settled => self.write_settled(out),
-            Taken::Not => Ok(false),
-        }
-    }
-
-    /// Takes a network.
-    pub(crate) fn put<O: Write>(
-        &mut self,
-        found: &Found<'_>,
-        out: &mut O,
-    ) -> Result<(), ProgramError> {
-        // such a network comes first, and `take` never takes the first one
-        if let Some(block) = self.clip.ipv4_beside(found) {
-            of_list(self.list.push(BlockKind::Ipv4, block, out))?;
-        }
-        let (kind, block) = self.clip.part_of(found);
-        of_list(self.list.push(kind, block, out))
-    }
-
-    /// Writes what comes after the last network. Where a network could not be read, the list is not whole.
-    pub(crate) fn finish<O: Write>(
-        &mut self,
-        is_whole: bool,
-        out: &mut O,
-    ) -> Result<(), ProgramError> {
-        end_list(&mut self.list, self.may_be_empty, is_whole, out)
     }
 }

@@ -1,5 +1,5 @@
 //! Which networks of databases are looked at for a list.
-use crate::clip::ipv4_part;
+use crate::several::ipv4_part;
 use crate::task::{ExportTask, Shape};
 use mmdb_blocks::{Block, BlockKind, Kinds};
 use mmdb_layout::{Database, NamedDatabase};

@@ -1,12 +1,6 @@
 //! The chosen networks of a range, written out.
-ghost use Rattle.std.specs.Prelude.{◌≡◌, IfOk};
-ghost use Rattle.mmdb_reader.specs.File.{data_section};
-ghost use Rattle.mmdb_cmd_export.specs.Chosen.{section_of, section_walked, IsFor};
-
 use crate::adjusted::write_adjusted;
 use crate::asked::{AskedTexts, asked_texts};
-use crate::blocks::Blocks;
-use crate::chosen::Export;
 use crate::gathering::{Adjustment, Listed};
 use crate::inputs::{ValueFile, check_inputs, read_adjustment, read_value_files};
 use crate::looked::looked_at;
@@ -18,76 +12,13 @@ use mmdb_arguments::{ExportArguments, NoRequest};
 use mmdb_blocks::Syntax;
 use mmdb_console::{Console, FAILED, Pace, ProgramError, note_range};
 use mmdb_layout::{
-    BesideFiles, Choice, Condition, Database, NamedDatabase, Networks, can_be_walked, networks_in,
-    open_database, open_named, range_asked,
+    BesideFiles, NamedDatabase, can_be_walked, open_database, open_named, range_asked,
 };
-use mmdb_reader::{IpNetwork, MaxMindDbError};
-use std::alloc::{AllocError, Global};
+use mmdb_reader::IpNetwork;
+use std::alloc::Global;
 use std::env::Env;
 use std::io::{BufRead, Write};
 use std::rt::Files;
-
-// Reports a network that can't be read.
-#[inline(never)]
-fn report_unread<O: Write, E: Pace>(
-    error: MaxMindDbError,
-    export: &mut Export<'_, '_>,
-    console: &mut Console<'_, O, E>,
-) -> Result<(), ProgramError>
-    ensures { section_of export.new.choice ≡ section_of export.old.choice }
-{
-    let reported = export.write_unread(&error, console);
-    drop(error);
-    reported
-}
-
-// Writes the chosen networks, and what comes after them.
-fn export_all<'r, O: Write, E: Pace>(
-    networks: Networks<'r>,
-    export: &mut Export<'_, 'r>,
-    console: &mut Console<'_, O, E>,
-) -> Result<(), ProgramError>
-    requires { IsFor export.old.choice (section_walked networks) }
-{
-    for item in networks {
-        match item {
-            Ok(found) => export.write(found, console)?,
-            Err(error) => report_unread(error, export, console)?,
-        }
-    }
-    export.finish(console)
-}
-
-// The choice of networks of a database by these conditions. None where there are none, and all networks are chosen.
-fn choice_of<'a>(
-    alloc: Global,
-    database: &'a Database,
-    conditions: &'a [Condition<'a>],
-) -> Result<Option<Choice<'a>>, AllocError>
-    ensures { IfOk result (λ choice. IsFor choice (data_section database.now)) }
-{
-    if conditions.is_empty() {
-        return Ok(None);
-    }
-    Ok(Some(Choice::new(alloc, database.data_section(), conditions)?))
-}
-
-// Writes the chosen networks of a database as a list, reports how many could not be read, and answers the status.
-fn export_chosen<'a, O: Write, E: Pace>(
-    database: &'a Database,
-    listed: &Listed<'a, 'a>,
-    syntax: Syntax<'a>,
-    console: &mut Console<'_, O, E>,
-) -> Result<u8, ProgramError> {
-    let (task, range) = (listed.task, listed.several.range());
-    let may_be_empty = task.allow_empty || task.may_lack();
-    let choice = choice_of(console.alloc, database, task.conditions.as_slice())?;
-    let networks = networks_in(console.alloc, database, range)?;
-    let blocks = Blocks::new(console.alloc, syntax, task.kinds, range, may_be_empty)?;
-    let mut export = Export::new(console.alloc, choice, listed.kinds, blocks)?;
-    export_all(networks, &mut export, console)?;
-    report_faults(export.faults, console)
-}
 
 // Writes the list of the chosen networks with what is added and without what is taken away, and answers the status.
 fn export_adjusted<O: Write, E: Pace>(
@@ -125,7 +56,7 @@ fn export_list<O: Write, E: Pace>(
         return export_adjusted(listed, syntax, adjustment, console);
     }
     match listed.several.alone() {
-        Some(database) => export_chosen(database, listed, syntax, console),
+        Some(database) => listed.write_one(database, syntax, console),
         None => export_adjusted(
             listed,
             syntax,

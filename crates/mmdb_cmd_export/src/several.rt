@@ -1,7 +1,6 @@
 //! Several databases side by side.
 ghost use Rattle.std.specs.Prelude.{◌≡◌};
 
-use crate::clip::ipv4_part;
 use crate::look::{Look, look_along};
 use mmdb_blocks::{Block, BlockKind, Kinds};
 use mmdb_compare::AskedDatabase;
@@ -15,6 +14,9 @@ use std::net::{IpAddr, Ipv4Addr, Ipv6Addr};
 
 /// The version of addresses of a database with IPv6.
 const IPV6: u16 = 6;
+
+/// The prefix of the block of all IPv4 addresses.
+const IPV4_PREFIX: u8 = 96;
 
 /// Databases that are asked side by side.
 #[derive(Drop)]
@@ -46,6 +48,17 @@ fn all_of(databases: &[NamedDatabase<'_>]) -> Result<IpNetwork, MaxMindDbError> 
         IpAddr::V4(Ipv4Addr::UNSPECIFIED)
     };
     Ok(IpNetwork::new(first, 0)?)
+}
+
+/// What a block has of the addresses of IPv4, which are those that begin with 96 zeros.
+pub(crate) fn ipv4_part(block: Block) -> Option<Block> {
+    if block.first >= 1 << 32 {
+        return None;
+    }
+    Some(Block {
+        first: block.first,
+        prefix: block.prefix.max(IPV4_PREFIX),
+    })
 }
 
 // What a range of IPv6 has of the addresses of IPv4.

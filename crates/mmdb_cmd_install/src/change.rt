@@ -1,5 +1,7 @@
 //! How much of two databases differs.
-use mmdb_compare::{Comparison, ComparisonPart, KnownPairs, Offsets, Side, SideBySide, Stretch};
+use mmdb_compare::{
+    AskedDatabase, KnownPairs, Offsets, Side, SideBySide, Together, TogetherPart, TogetherStretch,
+};
 use mmdb_reader::{IpNetwork, LookupResult, MaxMindDbError, Reader};
 use mmdb_value::Value;
 use std::alloc::Global;
@@ -36,7 +38,7 @@ pub(crate) struct Change {
 const BEHIND_48: u32 = 80;
 
 // The bits of a stretch's addresses that differ among them.
-fn free_bits(stretch: Stretch) -> u32 {
+fn free_bits(stretch: TogetherStretch) -> u32 {
     128u32.saturating_sub(u32::from(stretch.block.prefix))
 }
 
@@ -68,7 +70,7 @@ impl Change {
     }
 
     // Counts the addresses or networks of a stretch, which is behind those before it.
-    fn count(&mut self, stretch: Stretch, is_same: bool) {
+    fn count(&mut self, stretch: TogetherStretch, is_same: bool) {
         let bits = free_bits(stretch);
         if stretch.is_ipv4 {
             self.ipv4
@@ -107,21 +109,21 @@ fn of_side<T>(side: Side, got: Result<T, MaxMindDbError>) -> Result<T, SideError
 /// Two databases side by side, and what is known of their records.
 #[derive(Drop)]
 struct OldAndNew<'r> {
-    comparison: Comparison<'r, &'r [u8]>,
+    together: Together<'r, &'r [u8]>,
     records: SideBySide<'r>,
     known: KnownPairs,
 }
 
 impl<'r> OldAndNew<'r> {
     // Whether both records of a stretch are equal, by their values.
-    fn have_same_values(&self, alloc: Global, stretch: Stretch) -> Result<bool, SideError> {
+    fn have_same_values(&self, alloc: Global, stretch: TogetherStretch) -> Result<bool, SideError> {
         let old = of_side(
             Side::Old,
-            record_of(alloc, self.comparison.found_in_old(stretch)),
+            record_of(alloc, self.together.found(Side::Old.place(), stretch)),
         )?;
         let new = of_side(
             Side::New,
-            record_of(alloc, self.comparison.found_in_new(stretch)),
+            record_of(alloc, self.together.found(Side::New.place(), stretch)),
         )?;
         Ok(old == new)
     }
@@ -130,7 +132,7 @@ impl<'r> OldAndNew<'r> {
     fn have_same(
         &mut self,
         alloc: Global,
-        stretch: Stretch,
+        stretch: TogetherStretch,
         offsets: Offsets,
     ) -> Result<bool, SideError> {
         if let Some(is_same) = self.known.kept(offsets) {
@@ -146,12 +148,12 @@ impl<'r> OldAndNew<'r> {
     }
 
     // Whether both databases have the same in a stretch.
-    fn is_same(&mut self, alloc: Global, stretch: Stretch) -> Result<bool, SideError> {
-        if !stretch.has_old || !stretch.has_new {
+    fn is_same(&mut self, alloc: Global, stretch: TogetherStretch) -> Result<bool, SideError> {
+        let old = self.together.offset(Side::Old.place());
+        let new = self.together.offset(Side::New.place());
+        if old.is_none() || new.is_none() {
             return Ok(false);
         }
-        let old = self.comparison.offset_in_old(stretch);
-        let new = self.comparison.offset_in_new(stretch);
         match Offsets::of(old, new) {
             Some(offsets) => self.have_same(alloc, stretch, offsets),
             None => self.have_same_values(alloc, stretch),
@@ -160,7 +162,7 @@ impl<'r> OldAndNew<'r> {
 
     // The error of a leaf that can't be read.
     fn unread(&mut self, side: Side) -> MaxMindDbError {
-        match self.comparison.take_unread(side) {
+        match self.together.take_unread(side.place()) {
             Some(leaf) => leaf.error,
             None => MaxMindDbError::Memory,
         }
@@ -170,12 +172,15 @@ impl<'r> OldAndNew<'r> {
     fn change(&mut self, alloc: Global) -> Result<Change, SideError> {
         let mut change = Change::none();
         for _ in 0..u64::MAX {
-            match self.comparison.next_part() {
-                Some(ComparisonPart::Stretch(stretch)) => {
+            match self.together.next_part() {
+                Some(TogetherPart::Stretch(stretch)) => {
                     let is_same = self.is_same(alloc, stretch)?;
                     change.count(stretch, is_same);
                 }
-                Some(ComparisonPart::Unread(side)) => return Err((side, self.unread(side))),
+                Some(TogetherPart::Unread(place)) => {
+                    let side = Side::at(place);
+                    return Err((side, self.unread(side)));
+                }
                 None => break,
             }
         }
@@ -211,9 +216,16 @@ pub(crate) fn change_between<'r>(
 ) -> Result<Change, SideError> {
     let range = of_side(Side::Old, all_of(old))?;
     let (records, known) = of_side(Side::Old, kept_of(alloc, old, new))?;
-    let comparison = Comparison::new(alloc, old, new, range)?;
+    let asked = [
+        AskedDatabase { reader: old, range },
+        AskedDatabase { reader: new, range },
+    ];
+    let together = match Together::new(alloc, &asked) {
+        Ok(together) => together,
+        Err((place, error)) => return Err((Side::at(place), error)),
+    };
     let mut both = OldAndNew {
-        comparison,
+        together,
         records,
         known,
     };

@@ -1,12 +1,12 @@
 -- What comes of a range of a database agrees with lookups.
-use Rattle.std.proofs.Common.{◌≡◌, ℕ, ◌+◌, ◌-◌, ◌*◌, ◌/◌, ◌%◌, ◌^◌, ◌<◌, ◌≤◌, ◌⊎◌, inl, inr, Bool, true, false, not, ◌||◌, List, [], ◌∷◌, ◌++◌, map, get_or, length, take, drop, Option, Some, None, nat_eq, refl, ap, arith, sym, subst, ◌∙◌, eqb-true, if◌then◌else◌, append_assoc, length-append}
+use Rattle.std.proofs.Common.{◌≡◌, ℕ, ◌+◌, ◌-◌, ◌*◌, ◌/◌, ◌%◌, ◌^◌, ◌<◌, ◌≤◌, ◌⊎◌, inl, inr, Bool, true, false, not, ◌||◌, List, [], ◌∷◌, ◌++◌, map, get_or, length, take, drop, Option, Some, None, refl, ap, arith, sym, subst, ◌∙◌, eqb-true, append_assoc, length-append}
 use Rattle.std.specs.Prelude.{⊤, IsSomeAnd}
 use Rattle.std.specs.declared.convert.AsSlice.{Ghosts}
 use Rattle.std.specs.List.{All, Contains}
 use Rattle.std.proofs.lemmas.Bool.{cases_lt, cases_Bool, eq-eqb, lt-ltb}
 use Rattle.std.proofs.lemmas.Bool.Decides.{nat_tests}
-use Rattle.std.proofs.lemmas.Nat.{div-mul-add, pow_pos}
-use Rattle.std.proofs.lemmas.List.{get_or-map, get_or_default, length-map, take_all, drop_at, length-take-le}
+use Rattle.std.proofs.lemmas.Nat.{div-mul-add}
+use Rattle.std.proofs.lemmas.List.{get_or-map, get_or_default, length-map, take_all, drop_at}
 use Rattle.std.proofs.lemmas.List.Elements.{All-head, All-tail, All-from_get_or, All-contains, All-contains_itself, All-weaker}
 use Rattle.std.proofs.Math.Dec.{ltb}
 use Rattle.std.proofs.Math.Seq.{take-append_seam}
@@ -44,13 +44,12 @@ use Rattle.mmdb_reader.specs.Found.{leaf_of, offset_found}
 use Rattle.mmdb_reader.specs.declared.lookup_result.LookupResult.{LookupResult}
 use Rattle.mmdb_reader.proofs.ListingLemmas.{listed_exact}
 use Rattle.mmdb_reader.proofs.NumberLemmas.{take-bits-number}
-use Rattle.mmdb_compare.specs.Coming.{Leaf, Coming, Answer, coming, coming_from, passed, answer_of, answer_at, between, block_of_bits}
+use Rattle.mmdb_compare.specs.Coming.{Leaf, Coming, coming, passed, answer_of, answer_at, between, block_of_bits}
 use Rattle.mmdb_compare.specs.Coming.Leaf.{Network, Unread}
 use Rattle.mmdb_compare.specs.Coming.Answer.{Record}
-use Rattle.mmdb_compare.specs.Agreeing.{IsRecordAt, IsLeftOf, AllIsLeft, LeftGoesOn, LeftAfterUnread, AnswersAgree, IsFoundAsAnswered}
+use Rattle.mmdb_compare.specs.Agreeing.{IsRecordAt, AllIsLeft, LeftGoesOn, LeftAfterUnread, AnswersAgree, IsFoundAsAnswered}
 use Rattle.mmdb_compare.specs.Found.{numbered_ip, IsFoundAt}
 use Rattle.mmdb_compare.specs.Listed.{shown_bits, block_within, leaf_of_item, leaves_of_items, all_of}
-use Rattle.mmdb_compare.specs.Parts.{IsPast}
 use Rattle.mmdb_compare.proofs.ComingLaws.{stays, goes, answer_inside, answer_before}
 use Rattle.mmdb_compare.proofs.ListedLaws.{zeros_before, within_narrow, within_wide}
 

@@ -1,5 +1,5 @@
 -- Laws of what is found in databases side by side.
-use Rattle.std.proofs.Common.{◌≡◌, ℕ, ◌+◌, ◌<◌, ◌≤◌, ◌⊎◌, ◌↔◌, inl, inr, Bool, List, [], ◌∷◌, ◌++◌, map, get_or, length, take, Option, Some, None, Result, Ok, Err, IfOk, IfErr, refl, ap, arith, sym, subst, ◌∙◌}
+use Rattle.std.proofs.Common.{◌≡◌, ℕ, ◌+◌, ◌<◌, ◌≤◌, ◌⊎◌, ◌↔◌, inl, inr, List, [], ◌∷◌, ◌++◌, map, get_or, length, take, Option, None, Result, Ok, Err, IfOk, IfErr, refl, ap, arith, sym, subst, ◌∙◌}
 use Rattle.std.proofs.lemmas.Bool.{cases_lt}
 use Rattle.std.proofs.lemmas.List.{length-map, length-append, get_or_append_left, get_or_push, map_push, take_more, take_all}
 use Rattle.std.specs.Result.{result_ok}

@@ -1,13 +1,13 @@
 -- Laws of walks.
-use Rattle.std.proofs.Common.{◌≡◌, ℕ, ◌+◌, ◌-◌, ◌^◌, ◌*◌, ◌<◌, ◌≤◌, ◌⊎◌, inl, inr, Bool, true, List, ◌∷◌, Option, length, refl, ap, arith, sym, ◌∙◌}
+use Rattle.std.proofs.Common.{◌≡◌, ℕ, ◌+◌, ◌-◌, ◌^◌, ◌*◌, ◌<◌, ◌≤◌, Bool, List, ◌∷◌, Option, length, refl, ap, arith, sym, ◌∙◌}
 use Rattle.mmdb_blocks.specs.declared.block.Block.{Block}
-use Rattle.mmdb_blocks.specs.Blocks.{end, size, IsBlock}
+use Rattle.mmdb_blocks.specs.Blocks.{end, size, IsBlock, IsWithin}
 use Rattle.mmdb_compare.specs.declared.walk.Stand.{Stand}
 use Rattle.mmdb_compare.specs.declared.walk.Stand.TheVariants.{Nowhere, AtNetwork, AtEnd}
-use Rattle.mmdb_compare.specs.Coming.{Leaf, Coming, coming, passed, coming_from}
+use Rattle.mmdb_compare.specs.Coming.{Leaf, Coming, coming, passed, coming_from, answer_at}
 use Rattle.mmdb_compare.specs.Coming.Leaf.{Network}
+use Rattle.mmdb_compare.specs.Coming.Answer.{Record}
 use Rattle.mmdb_compare.specs.Walks.{Standing, left_at, left_of, behind_at, behind_of, IsFromAt, IsFrom, IsBehindAt, IsBehind, IsTakenAt, IsTaken, steps_left, step_to_end, StandsAround, IsDone}
-use Rattle.mmdb_compare.specs.Parts.{IsAnswered}
 use Rattle.mmdb_compare.proofs.BlockLaws.{inside, one_block}
 use Rattle.mmdb_compare.proofs.ComingLaws.{stays, goes, answer_inside}
 
@@ -41,13 +41,17 @@ nearer_at AtNetwork AtEnd at block after offset leaves left u v behind same take
 pub nearer : (at : ℕ) (old new : Standing) → IsBehind at old → IsTaken (behind_of old) new → steps_left new < steps_left old
 nearer at old new h t = nearer_at old.stand new.stand at old.block new.block new.offset old.leaves new.leaves old.is_unknown new.is_unknown h t.left t.stands
 
+-- at each address of a block there is a record
+abbrev HasRecord : Coming → Block → Option ℕ → Type 0
+HasRecord c block offset = (address : ℕ) → IsWithin address block → answer_at address c ≡ Record offset
+
 -- in a block of which the network at hand has all, there is its record
-around_at : (stand : Stand) (wide block : Block) (offset : Option ℕ) (leaves : List Leaf) (u : Bool) → stand ≡ AtNetwork → IsFromAt stand block.first wide leaves → wide.first ≤ block.first → wide.prefix ≤ block.prefix → IsBlock wide → IsBlock block → IsAnswered (left_at stand wide offset leaves u) block true offset
+around_at : (stand : Stand) (wide block : Block) (offset : Option ℕ) (leaves : List Leaf) (u : Bool) → stand ≡ AtNetwork → IsFromAt stand block.first wide leaves → wide.first ≤ block.first → wide.prefix ≤ block.prefix → IsBlock wide → IsBlock block → HasRecord (left_at stand wide offset leaves u) block offset
 around_at Nowhere wide block offset leaves u e f first prefix w b address inn = absurd f
 around_at AtEnd wide block offset leaves u e f first prefix w b address inn = cc
 around_at AtNetwork wide block offset leaves u e f first prefix w b address inn = answer_inside address wide offset leaves u (omega (arith, first, inn.0)) (omega (arith, inside block wide b w prefix f, inn.1))
 
-pub around : (s : Standing) (block : Block) (at : ℕ) → block.first ≡ at → IsFrom at s → StandsAround s block → IsBlock block → IsAnswered (left_of s) block true s.offset
+pub around : (s : Standing) (block : Block) (at : ℕ) → block.first ≡ at → IsFrom at s → StandsAround s block → IsBlock block → HasRecord (left_of s) block s.offset
 around s block at begins f a b = around_at s.stand s.block block s.offset s.leaves s.is_unknown a.stands (rw begins f) a.first a.prefix a.is_block b
 
 -- where it has no shorter prefix, nothing is left of the network after the block
@@ -61,7 +65,3 @@ done_at AtNetwork wide block leaves e f first prefix w b =
 
 pub done : (s : Standing) (block : Block) (at : ℕ) → block.first ≡ at → IsFrom at s → StandsAround s block → IsBlock block → s.block.prefix ≡ block.prefix → IsDone s (end block)
 done s block at begins f a b same = record { stands = a.stands; ends = done_at s.stand s.block block s.leaves a.stands (rw begins f) a.first same a.is_block b }
-
-pub prefixes : (a b n : ℕ) → (a ≡ n) ⊎ (b ≡ n) → a ≡ b → (a ≡ n) × (b ≡ n)
-prefixes a b n (inl h) e = (h, sym e ∙ h)
-prefixes a b n (inr h) e = (e ∙ h, h)

@@ -3,7 +3,6 @@ use Rattle.std.specs.Prelude.{ℕ, length, Bool, false, List, [], ◌∷◌, Opt
 use Rattle.mmdb_blocks.specs.declared.block.Block.{Block}
 use Rattle.mmdb_blocks.specs.Blocks.{end}
 use Rattle.mmdb_net.specs.Bits.{number_of}
-use Rattle.mmdb_reader.specs.File.{Database}
 
 -- A leaf: a network, as much of it as lies in the range, with where its record is; or one that can't be read.
 pub data Leaf : Type 0 where
@@ -51,17 +50,6 @@ answer_of at (Network block offset ∷ leaves) is_unknown =
 
 abbrev pub answer_at : ℕ → Coming → Answer
 answer_at at c = let left = coming_from at c in answer_of at left.leaves left.is_unknown
-
--- A comparison: both databases; the address up to which all is compared, or 2 ^ 128 where that is each address; what is left to come of
--- both databases from there on; and where the record is of the network that each of them is at.
-pub record Comparing : Type 0 where
-  pub old_database : Database
-  pub new_database : Database
-  pub at : ℕ
-  pub old : Coming
-  pub new : Coming
-  pub old_offset : Option ℕ
-  pub new_offset : Option ℕ
 
 -- The block of the addresses that begin with these of 128 bits.
 abbrev pub block_of_bits : List Bool → Block

@@ -14,7 +14,7 @@ pub fn answers_agree_with_lookups()
     ensures agree { AnswersAgree }
 {}
 
-/// What a lookup of such an address finds, in words of `Comparison::found_in_old` and `Together::answers`: something, with the
+/// What a lookup of such an address finds, in words of `Together::found` and `Together::answers`: something, with the
 /// offset that the walk has there.
 pub fn found_as_answered<S: AsSlice<u8> + Drop>(found: &Option<LookupResult<'_, S>>)
     ensures { IsFoundAsAnswered found.now }

@@ -2,22 +2,21 @@
 //! values of both that are read side by side, and what is kept of pairs of records.
 #![tactic(auto)]
 
-mod comparison;
 mod contents;
 mod equality;
 pub mod laws;
 mod pairs;
 mod place;
 mod shown;
+mod side;
 mod together;
 mod walk;
 mod walk_list;
-mod walks;
 
-pub use comparison::{Comparison, ComparisonPart, Side, Stretch};
 pub use equality::SideBySide;
 pub use pairs::{KnownPairs, Offsets};
 pub use shown::{ShownPair, ShownPairs};
+pub use side::Side;
 pub use together::{Together, TogetherPart, TogetherStretch};
 pub use walk::UnreadLeaf;
 pub use walk_list::AskedDatabase;

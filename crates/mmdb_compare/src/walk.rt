@@ -277,12 +277,13 @@ impl<'a, S: AsSlice<u8> + Drop> Walk<'a, S> {
         self.is_at_network() && self.first <= at
     }
 
-    /// Whether the network that it is at has the addresses of another walk's.
+    /// Whether it is at the network that is a block.
     #[inline(always)]
-    pub(crate) fn has_same_addresses(&self, other: &Walk<'_, S>) -> bool
-        ensures { IsTrue result ↔ (self.now.block ≡ other.now.block) }
+    pub(crate) fn is_at(&self, block: Block) -> bool
+        ensures { IsTrue result
+            ↔ ((self.now.stand ≡ Stand.AtNetwork) × (self.now.block ≡ block)) }
     {
-        self.first == other.first && self.prefix == other.prefix
+        self.is_at_network() && self.first == block.first && self.prefix == block.prefix
     }
 
     /// Whether it is at a network.

@@ -1,13 +1,16 @@
 //! The walks of any number of databases side by side.
-ghost use Rattle.std.specs.Prelude.{◌≡◌, ◌&&◌, ◌||◌, min, map, length, MatchOption, IfOk};
+ghost use Rattle.std.specs.Prelude.{◌≡◌, ◌≤◌, ◌<◌, ◌&&◌, ◌||◌, ℕ, true, min, map, length, get_or, MatchOption, IfOk};
 ghost use Rattle.std.specs.List.{All};
+ghost use Rattle.mmdb_blocks.specs.Blocks.{IsBlock};
+ghost use Rattle.mmdb_reader.specs.File.{Database};
 ghost use Rattle.mmdb_compare.specs.Listed.{all_of};
 ghost use Rattle.mmdb_compare.specs.Walks.{left_of, IsFrom, last_here, is_record_here};
 ghost use Rattle.mmdb_compare.specs.Together.{offset_in};
-ghost use Rattle.mmdb_compare.specs.Found.{numbered_ip, AreFoundAt};
-ghost use Rattle.mmdb_compare.specs.WalkList.{databases_of, AllGone, IsMetOf, AreHere, is_known_here, held_at};
+ghost use Rattle.mmdb_compare.specs.Found.{numbered_ip, IsFoundAt, AreFoundAt};
+ghost use Rattle.mmdb_compare.specs.WalkList.{databases_of, AllGone, AllPassed, IsMetOf, AreHere, AreAt, AreNarrowest, AreShared, AreDone, is_known_here, held_at};
 
 use crate::walk::{Here, UnreadLeaf, Walk};
+use mmdb_blocks::Block;
 use mmdb_reader::{IpNetwork, LookupResult, MaxMindDbError, Reader};
 use std::alloc::{AllocError, Global};
 use std::convert::AsSlice;
@@ -33,6 +36,49 @@ pub(crate) struct AllHere {
     pub(crate) has_record: bool,
 }
 
+/// What is handed out at an address.
+#[derive(Clone, Copy)]
+pub(crate) enum AllAt {
+    /// A block that begins there. `are_even` says that all are at one network, of which nothing is left after the block.
+    Shown { block: Block, are_even: bool },
+    /// Nothing up to this address.
+    Passed(u128),
+}
+
+// The narrowest of the networks that all are at, and whether they have one prefix.
+#[derive(Clone, Copy)]
+struct Narrowest {
+    block: Block,
+    are_even: bool,
+}
+
+impl Narrowest {
+    // With one more network.
+    #[inline(always)]
+    fn and(self, block: Block) -> Narrowest
+        requires of_these { IsBlock self.block }
+        requires of_other { IsBlock block }
+        ensures block { IsBlock result.block }
+        ensures before { self.block.prefix ≤ result.block.prefix }
+        ensures narrower { block.prefix ≤ result.block.prefix }
+        ensures even { result.are_even ≡ true → self.are_even ≡ true }
+        ensures same { result.are_even ≡ true → result.block.prefix ≡ self.block.prefix }
+        ensures one { result.are_even ≡ true → block.prefix ≡ result.block.prefix }
+    {
+        if block.prefix == self.block.prefix {
+            return self;
+        }
+        Narrowest {
+            block: if block.prefix > self.block.prefix {
+                block
+            } else {
+                self.block
+            },
+            are_even: false,
+        }
+    }
+}
+
 impl AllHere {
     // With what one more database has there.
     fn and(self, here: Here) -> AllHere
@@ -52,8 +98,8 @@ impl AllHere {
         }
     }
 
-    /// Whether it is handed out: what each database has is known, and one of them has a record.
-    pub(crate) fn is_shown(self) -> bool
+    // Whether it is handed out: what each database has is known, and one of them has a record.
+    fn is_shown(self) -> bool
         ensures { result ≡ (self.is_known && self.has_record) }
     {
         self.is_known && self.has_record
@@ -103,8 +149,70 @@ impl<'a, S: AsSlice<u8> + Drop> WalkList<'a, S> {
         None
     }
 
-    /// What all have at an address.
-    pub(crate) fn at(&self, at: u128) -> AllHere
+    /// Goes on in all from where they are, or names the place of a leaf that can't be read.
+    #[inline(always)]
+    pub(crate) fn go_on(&mut self) -> Option<usize>
+        ensures databases { let before = self.entry.now.walks.items in
+            databases_of self.exit.now.walks.items ≡ databases_of before }
+        ensures step { (at : ℕ) → AreDone at self.entry.now.walks.items
+            → MatchOption result
+            (AllPassed at self.entry.now.walks.items self.exit.now.walks.items)
+            (λ place. IsMetOf place at self.entry.now.walks.items self.exit.now.walks.items) }
+    {
+        for place in 0..self.walks.len() {
+            let walk = &mut self.walks[place];
+            if !walk.pass() {
+                return Some(place);
+            }
+        }
+        None
+    }
+
+    /// The block of the networks that all are at, where that is one network, at an address or after it.
+    #[inline(always)]
+    pub(crate) fn shared_behind(&self, at: u128) -> Option<Block>
+        ensures { MatchOption result Unit (AreShared self.now.walks.items at) }
+    {
+        if self.walks.is_empty() {
+            return None;
+        }
+        let block = self.walks[0].block();
+        for walk in &self.walks {
+            if !walk.is_at(block) {
+                return None;
+            }
+        }
+        if at <= block.first { Some(block) } else { None }
+    }
+
+    // The narrowest of the networks that all are at, where it begins at an address and the others hold that.
+    #[inline(always)]
+    fn narrowest_at(&self, at: u128) -> Option<Narrowest>
+        ensures { MatchOption result Unit (λ narrowest.
+            AreNarrowest self.now.walks.items at narrowest.block narrowest.are_even) }
+    {
+        if self.walks.is_empty() {
+            return None;
+        }
+        let mut all = Narrowest {
+            block: self.walks[0].block(),
+            are_even: true,
+        };
+        for walk in &self.walks {
+            if !walk.has_begun(at) {
+                return None;
+            }
+            all = all.and(walk.block());
+        }
+        if all.block.first == at {
+            Some(all)
+        } else {
+            None
+        }
+    }
+
+    // What all have at an address, one by one.
+    fn each_at(&self, at: u128) -> AllHere
         requires { All (IsFrom at) self.now.walks.items }
         ensures { AreHere self.now.walks.items at result }
     {
@@ -117,6 +225,25 @@ impl<'a, S: AsSlice<u8> + Drop> WalkList<'a, S> {
             all = all.and(walk.at(at));
         }
         all
+    }
+
+    /// What is handed out at an address.
+    #[inline(always)]
+    pub(crate) fn at(&self, at: u128) -> AllAt
+        requires { All (IsFrom at) self.now.walks.items }
+        ensures { AreAt self.now.walks.items at result }
+    {
+        if let Some(Narrowest { block, are_even }) = self.narrowest_at(at) {
+            return AllAt::Shown { block, are_even };
+        }
+        let here = self.each_at(at);
+        if !here.is_shown() {
+            return AllAt::Passed(here.last);
+        }
+        AllAt::Shown {
+            block: Block::largest(at, here.last),
+            are_even: false,
+        }
     }
 
     /// Whether a network of IPv4 holds an address, in one of them.
@@ -170,6 +297,19 @@ impl<'a, S: AsSlice<u8> + Drop> WalkList<'a, S> {
             all.push(walk.found_from(at, address))?;
         }
         Ok(all)
+    }
+
+    /// What the one at a place has for an address.
+    pub(crate) fn found_in(&self, place: usize, address: u128) -> Option<LookupResult<'a, S>>
+        ensures { (db : Database) → place < length self.now.walks.items
+            → IsFoundAt (get_or (databases_of self.now.walks.items) place db)
+            (numbered_ip address) result }
+    {
+        if place >= self.walks.len() {
+            return None;
+        }
+        let walk = &self.walks[place];
+        walk.found_at(address)
     }
 
     /// The last leaf that can't be read of the database at a place.

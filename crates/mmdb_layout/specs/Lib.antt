@@ -4,8 +4,6 @@ pub mod Reading
 pub mod Texts
 pub mod Conditions
 pub mod Numbers
-pub mod Choices
 -- What only contracts of private functions and proofs name.
 pub mod Working
-pub mod KeptAnswers
 pub mod Digits

@@ -5,16 +5,13 @@ use json::{Token, Writer};
 use mmdb_arguments::NoRequest;
 use mmdb_filter::put_csv_cell;
 use mmdb_found::{value_along, write_found};
-use mmdb_json::{RecordTexts, compact};
+use mmdb_json::compact;
 use mmdb_reader::{MaxMindDbError, PathElement};
 use mmdb_value::Value;
 use std::alloc::{AllocError, Global};
 
 /// The name of a row's network.
 pub const NETWORK: &str = "network";
-
-/// What comes before the network in a line of JSON.
-const BEFORE_NETWORK: &str = "{\"network\":\"";
 
 /// How a network is written with what its record has.
 #[derive(Drop)]
@@ -177,68 +174,7 @@ pub fn write_values(
     Ok(())
 }
 
-// The beginning of an object with an empty network.
-fn begin_object(out: &mut Writer) -> Result<(), AllocError> {
-    out.token(Token::BeginObject)?;
-    out.token(Token::Key(NETWORK))?;
-    out.token(Token::String(""))
-}
-
-// Puts the row of the record at an offset as a line with an object, with an empty network, in place of another row. Whether
-// it could be laid out so, and there was memory.
-fn put_record_row(offset: usize, texts: &mut RecordTexts<'_>, row: &mut Vec<u8>) -> bool {
-    row.clear();
-    row.extend_from_slice(b"{\"network\":\"\",\"record\":")
-        .is_ok()
-        && texts.put(offset, row)
-        && row.extend_from_slice(b"}\n").is_ok()
-}
-
 impl Layout<'_> {
-    // Adds the record, or the values that are wanted of it.
-    fn write_record(
-        &self,
-        alloc: Global,
-        found: &Found<'_>,
-        out: &mut Writer,
-    ) -> Result<(), MaxMindDbError> {
-        if let Layout::Values(fields) = self {
-            return write_values(alloc, fields, Some(found), out);
-        }
-        out.token(Token::Key("record"))?;
-        write_found(alloc, found, &[], out)?;
-        Ok(())
-    }
-
-    // Writes the row of a record as an object, with an empty network.
-    fn write_object(
-        &self,
-        alloc: Global,
-        found: &Found<'_>,
-        out: &mut Writer,
-    ) -> Result<(), MaxMindDbError> {
-        begin_object(out)?;
-        self.write_record(alloc, found, out)?;
-        Ok(out.token(Token::EndObject)?)
-    }
-
-    // The row of a record as a line with an object, with an empty network.
-    fn object(&self, alloc: Global, found: &Found<'_>) -> Result<Vec<u8>, MaxMindDbError> {
-        let mut out = Writer::new(Vec::with_capacity(alloc, 256)?);
-        self.write_object(alloc, found, &mut out)?;
-        let mut row = out.into_inner();
-        row.push(b'\n')?;
-        Ok(row)
-    }
-
-    /// The row of a record, with an empty network. Fails as `value_along` does.
-    pub fn row(&self, alloc: Global, found: &Found<'_>) -> Result<Vec<u8>, MaxMindDbError> {
-        match self {
-            Layout::Cells(fields) => line_of_cells(alloc, fields, "", &[Some(found)]),
-            Layout::Records | Layout::Values(_) => self.object(alloc, found),
-        }
-    }
-
     // The fields, where not whole records are wanted.
     fn fields(&self) -> Option<&ChosenFields<'_>> {
         match self {
@@ -263,49 +199,9 @@ impl Layout<'_> {
         }
     }
 
-    /// Whether a row has a whole record, so that `put_row` may make it of the texts of records.
+    /// Whether a row has a whole record.
     pub fn has_records(&self) -> bool {
         matches!(self, Layout::Records)
-    }
-
-    /// Puts that row in place of another one; of whole records by the texts of the records of the same database. Those
-    /// copy what pointers lead to, where `row` reads and lays out each value again. What they leave, or suspect not to be
-    /// readable, is put as `row` does.
-    pub fn put_row(
-        &self,
-        alloc: Global,
-        found: &Found<'_>,
-        texts: &mut RecordTexts<'_>,
-        row: &mut Vec<u8>,
-    ) -> Result<(), MaxMindDbError> {
-        let (Layout::Records, Some(offset)) = (self, found.offset()) else {
-            *row = self.row(alloc, found)?;
-            return Ok(());
-        };
-        if !texts.is_suspected(offset) && put_record_row(offset, texts, row) {
-            return Ok(());
-        }
-        *row = Vec::new(alloc);
-        match self.object(alloc, found) {
-            Ok(object) => {
-                texts.note_readable();
-                *row = object;
-                Ok(())
-            }
-            Err(MaxMindDbError::Memory) => Err(MaxMindDbError::Memory),
-            Err(error) => {
-                texts.note_unreadable(offset);
-                Err(error)
-            }
-        }
-    }
-
-    /// Where the network is in a row.
-    pub fn place_of_network(&self) -> usize {
-        match self {
-            Layout::Cells(_) => 0,
-            Layout::Records | Layout::Values(_) => BEFORE_NETWORK.len(),
-        }
     }
 
     /// The line of the columns' names, where there are columns. An `Err` is of memory.

@@ -3,7 +3,6 @@
 #![tactic(auto)]
 
 mod absent;
-mod choice;
 mod condition;
 mod database;
 mod few;
@@ -17,7 +16,6 @@ mod read_along;
 mod texts;
 
 pub use absent::{FieldsMet, MOST_RECORDS, RecordAt, absent_text, similar_path};
-pub use choice::Choice;
 pub use condition::{Condition, Requirement, is_number_of, split_condition};
 pub use database::{
     Database, Found, Networks, Opened, networks_in, open_at, open_database, open_found, path_or,

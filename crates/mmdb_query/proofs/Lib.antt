@@ -12,3 +12,5 @@ mod SegmentLaws
 mod AbreastLaws
 mod PartLaws
 mod RowLaws
+mod ListingLaws
+mod WholeLaws

@@ -1,13 +1,15 @@
 -- What is wanted of networks.
-use Rattle.std.proofs.Common.{◌≡◌, ◌↔◌, ◌⊎◌, inl, inr, ◌<◌, ◌≤◌, ℕ, ◌+◌, ◌-◌, ◌^◌, Bool, true, false, ◌||◌, List, [], ◌∷◌, ◌++◌, Option, Some, None, Result, Ok, Err, IfOk, length, take, drop, refl, sym, ap, ◌∙◌, subst, append_assoc, append-nil, arith, if◌then◌else◌}
+use Rattle.std.proofs.Common.{◌≡◌, ◌↔◌, ◌⊎◌, inl, inr, ◌<◌, ◌≤◌, ℕ, ◌+◌, ◌-◌, ◌^◌, Bool, true, false, ◌||◌, List, [], ◌∷◌, ◌++◌, Option, Some, None, Result, Ok, Err, IfOk, min, length, take, drop, refl, sym, ap, ◌∙◌, subst, append_assoc, append-nil, arith, if◌then◌else◌}
 use Rattle.std.proofs.Math.Seq.{take-append-add}
-use Rattle.std.proofs.lemmas.List.{length-append, length-take-le}
+use Rattle.std.proofs.Math.Nat.{min-le_left}
+use Rattle.std.proofs.lemmas.List.{length-append, length-take, length-take-le}
 use Rattle.std.proofs.lemmas.Slice.Eq.{starts_is}
 use Rattle.std.specs.Bool.{beq, IsTrue}
 use Rattle.std.specs.Cmp.{booleans_Decides}
 use Rattle.std.specs.List.{starts_with}
+use Rattle.std.specs.Option.{ForSome}
 use Rattle.std.specs.Net.Addr.{is_ipv4}
-use Rattle.mmdb_net.specs.Address.{IsMaskedIp}
+use Rattle.mmdb_net.specs.Address.{IsMaskedIp, address_width, bits_of_address}
 use Rattle.mmdb_net.specs.Bits.{bits_of, zero_bits, IsPrefix}
 use Rattle.mmdb_net.specs.Network.{ip_of, prefix_of, block_of}
 use Rattle.mmdb_net.specs.declared.network.IpNetwork.{IpNetwork}
@@ -19,7 +21,8 @@ use Rattle.mmdb_blocks.specs.declared.kind.Kinds.{Kinds}
 use Rattle.mmdb_blocks.specs.declared.kind.Kinds.TheVariants.{Both}
 use Rattle.mmdb_query.specs.Abreast.{IsOfIpv4}
 use Rattle.mmdb_query.specs.Had.{Had, IsNetworkOf, network_bits}
-use Rattle.mmdb_query.specs.Parts.{is_wanted, has_range, range_in, clipped, parts_of, ComesInPart, IsInRange, IsAnsweredIn, AnswersStay}
+use Rattle.mmdb_query.specs.Listings.{HasBits}
+use Rattle.mmdb_query.specs.Parts.{is_wanted, has_range, range_in, clipped, handed, IsHanded, parts_of, ComesInPart, IsInRange, IsAnsweredIn, AnswersStay}
 use Rattle.mmdb_query.specs.Sets.{BeginsWith, IsGathered}
 use Rattle.mmdb_query.specs.Taking.{Asked}
 use Rattle.mmdb_query.specs.declared.addresses.Addresses.{Addresses}
@@ -139,23 +142,53 @@ kind_shown had range network shown part is block bits starts kind =
     let same : is_ipv4 (ip_of shown) ≡ either = same_truth (is_ipv4 (ip_of shown)) either (λ v4. (kind.0 v4).0) (λ v4. kind.1 (v4, (fits v4).0, (fits v4).1)) in
     same ∙ ap (λ b. is_ipv4 (ip_of range) || b) is.kind
 
-pub range_shown : (had : Had) (range network shown : IpNetwork) (part : Block) → IsNetworkOf had network → IsBlock part → bits_of_block part ≡ network_bits range
-    → has_range had range ≡ true → IsTrue (is_ipv4 (ip_of shown)) ↔ IsOfIpv4 (is_ipv4 (ip_of range) || is_ipv4 (ip_of network)) part
-    → network_bits shown ≡ bits_of_block part → IsMaskedIp (ip_of shown) (prefix_of shown) (ip_of shown) → IsNetworkOf (clipped (Some range) had) shown
-range_shown had range network shown part is block bits starts kind made masked =
-    let there : IsNetworkOf (range_in had range) shown =
-    record { kind = kind_shown had range network shown part is block bits starts kind; bits = made ∙ bits; masked = masked } in
-    subst (λ b. IsNetworkOf (if b then range_in had range else had) shown) (sym starts) there
-
-pub network_shown : (had : Had) (range network : IpNetwork) → IsNetworkOf had network → has_range had range ≡ false → IsNetworkOf (clipped (Some range) had) network
-network_shown had range network is lacks =
-    subst (λ b. IsNetworkOf (if b then range_in had range else had) network) (sym lacks) is
-
--- ---- what addresses have
-
 cut_offsets : (b : Bool) (range : IpNetwork) (had : Had) → (if b then range_in had range else had).offsets ≡ had.offsets
 cut_offsets true range had = refl
 cut_offsets false range had = refl
+
+pub range_shown : (had : Had) (range network shown : IpNetwork) (part : Block) → IsNetworkOf had network → IsBlock part → bits_of_block part ≡ network_bits range
+    → has_range had range ≡ true → IsTrue (is_ipv4 (ip_of shown)) ↔ IsOfIpv4 (is_ipv4 (ip_of range) || is_ipv4 (ip_of network)) part
+    → network_bits shown ≡ bits_of_block part → IsMaskedIp (ip_of shown) (prefix_of shown) (ip_of shown) → IsHanded (clipped (Some range) had) had (Some shown)
+range_shown had range network shown part is block bits starts kind made masked =
+    let there : IsNetworkOf (range_in had range) shown =
+    record { kind = kind_shown had range network shown part is block bits starts kind; bits = made ∙ bits; masked = masked } in
+    (subst (λ b. IsNetworkOf (if b then range_in had range else had) shown) (sym starts) there, cut_offsets (has_range had range) range had)
+
+pub network_shown : (had : Had) (range : IpNetwork) → has_range had range ≡ false → IsHanded (clipped (Some range) had) had None
+network_shown had range lacks = ap (λ b. if b then range_in had range else had) lacks
+
+-- a network whose addresses begin with more bits than those of the range has not all of these
+pub deeper_shown : (had : Had) (range : IpNetwork) (block : Block) (depth : ℕ) → HasBits block had.bits → length (network_bits range) ≤ depth → depth < block.prefix
+    → IsHanded (clipped (Some range) had) had None
+deeper_shown had range block depth has deep more =
+    network_shown had range (false_unless (has_range had range) (λ starts.
+    let short = prefix_short had.bits (network_bits range) (prefix_of_starts (network_bits range) had.bits starts) in
+    let long : length had.bits ≡ block.prefix = ap length (sym has.same) ∙ long_block_bits block has.is_block in
+    omega (arith, short, long, deep, more)))
+
+deep_length : (n p : ℕ) (bits : List Bool) → length (zero_bits n ++ take p bits) ≤ n + p
+deep_length n p bits =
+    let sum = length-append (zero_bits n) (take p bits) in
+    let zeros = length-zero_bits n in
+    let most : min p (length bits) ≤ p = min-le_left p (length bits) in
+    omega (arith, sum, zeros, length-take p bits, most)
+
+pub deep_bits : (network : IpNetwork) → length (network_bits network) ≤ (128 - address_width (ip_of network)) + prefix_of network
+deep_bits network = deep_length (128 - address_width (ip_of network)) (prefix_of network) (bits_of_address (ip_of network))
+
+-- what is handed out, as it is
+pub handed_is : (out had : Had) (part : Option IpNetwork) → IsHanded out had part → handed part had ≡ out
+handed_is out had None is = sym is
+handed_is out had (Some part) (is, offsets) =
+    ap (λ (b : List Bool). record { bits = b; as_ipv4 = is_ipv4 (ip_of part); offsets = had.offsets }) is.bits
+    ∙ ap (λ (k : Bool). record { bits = out.bits; as_ipv4 = k; offsets = had.offsets }) is.kind
+    ∙ ap (λ (o : List (Option ℕ)). record { bits = out.bits; as_ipv4 = out.as_ipv4; offsets = o }) (sym offsets)
+
+pub handed_masked : (out had : Had) (part : Option IpNetwork) → IsHanded out had part → ForSome part (λ n. IsMaskedIp (ip_of n) (prefix_of n) (ip_of n))
+handed_masked out had None is n same = absurd (cc)
+handed_masked out had (Some part) (is, offsets) n same = let here : part ≡ n = cc in subst (λ m. IsMaskedIp (ip_of m) (prefix_of m) (ip_of m)) here is.masked
+
+-- ---- what addresses have
 
 offsets_stay : (range : Option IpNetwork) (had : Had) → (clipped range had).offsets ≡ had.offsets
 offsets_stay None had = refl
@@ -218,7 +251,7 @@ answers_stay kinds range items address offsets inside = (from_parts kinds range 
 
 -- ---- all that comes
 
-all_parts : (items : List Item) → parts_of Both None items ≡ items
+pub all_parts : (items : List Item) → parts_of Both None items ≡ items
 all_parts [] = refl
 all_parts (Unread ∷ items) = ap (λ rest. Unread ∷ rest) (all_parts items)
 all_parts (Found had ∷ items) = ap (λ rest. Found had ∷ rest) (all_parts items)

@@ -17,6 +17,7 @@ use Rattle.mmdb_query.specs.Had.{Had, IsNetworkOf, network_bits}
 use Rattle.mmdb_query.specs.Walks.{Item}
 use Rattle.mmdb_query.specs.Walks.Item.{Found, Unread}
 use Rattle.mmdb_query.specs.Taking.{Asked, CantBePut, IsPicked, ArePicked, Runs, Takes}
+use Rattle.mmdb_query.specs.Ends.{leaves_none}
 use Rattle.mmdb_query.specs.Rows.{nothing}
 use Rattle.mmdb_query.specs.Sets.{BeginsWith, Has, LiesIn, LiesInOne, AddsNetwork, Adds, IsFoundIn, LiesInChosen, IsLeftOut, IsGathered, puts_addresses, needs_nothing}
 use Rattle.mmdb_query.specs.declared.addresses.Addresses.{Addresses}
@@ -190,10 +191,10 @@ module _ {X : Type 0} (a : Asked X) (as_ipv4 : Bool) (address : ℕ) where
 
 pub gathered : (comes : List Item → Type 0) (says : List (Option ℕ) → Bool → Type 0) (unsaid : List (Option ℕ) → Type 0) (s : List (List ℕ)) (old new : Addresses) (before after : Option (List ℕ)) (faults : ℕ)
     → old.ipv4 ≡ [] → old.ipv6 ≡ []
-    → Takes comes (record { says = says; unsaid = unsaid; puts = puts_addresses nothing s; unput = needs_nothing nothing s }) old new before after faults
-    → IsGathered comes (record { says = says; unsaid = unsaid; puts = puts_addresses nothing s; unput = needs_nothing nothing s }) new faults
+    → Takes comes (record { says = says; unsaid = unsaid; puts = puts_addresses nothing s; unput = needs_nothing nothing s; leaves = leaves_none nothing s }) old new before after faults
+    → IsGathered comes (record { says = says; unsaid = unsaid; puts = puts_addresses nothing s; unput = needs_nothing nothing s; leaves = leaves_none nothing s }) new faults
 gathered comes says unsaid s old new before after faults none empty takes =
-    let a : Asked Addresses = record { says = says; unsaid = unsaid; puts = puts_addresses nothing s; unput = needs_nothing nothing s } in
+    let a : Asked Addresses = record { says = says; unsaid = unsaid; puts = puts_addresses nothing s; unput = needs_nothing nothing s; leaves = leaves_none nothing s } in
     let exact = from_none s takes.put old new takes.text none empty takes.ran in
     record {
       items = takes.items;

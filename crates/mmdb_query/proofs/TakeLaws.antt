@@ -1,5 +1,5 @@
 -- What was taken and written of the items that came.
-use Rattle.std.proofs.Common.{◌≡◌, inl, inr, ℕ, ◌+◌, List, [], ◌∷◌, ◌++◌, Option, Some, None, Bool, true, false, Result, Ok, Err, IfOk, refl, sym, ap, ◌∙◌, subst, append_assoc, append-nil, arith}
+use Rattle.std.proofs.Common.{◌≡◌, inl, inr, ℕ, ◌+◌, ◌≤◌, List, [], ◌∷◌, ◌++◌, Option, Some, None, Bool, true, false, Result, Ok, Err, IfOk, IfErr, refl, sym, ap, ◌∙◌, subst, append_assoc, append-nil, arith}
 use Rattle.std.proofs.lemmas.List.{length-append}
 use Rattle.std.specs.Io.KnownBytes.{Appends, Keeps}
 use Rattle.std.proofs.KnownBytes.{Appends-nil, Appends-trans}
@@ -10,8 +10,8 @@ use Rattle.mmdb_query.specs.Had.{Had}
 use Rattle.mmdb_query.specs.Walks.{Item, Goes, IsStep}
 use Rattle.mmdb_query.specs.Walks.Item.{Found, Unread}
 use Rattle.mmdb_query.specs.Taking.{Asked, IsPicked, ArePicked, Runs, Takes, IsDone, IsDoneOrNot}
-use Rattle.mmdb_query.specs.Steps.{is_memory, IsTried, TakesItem, TakesKnown, TakesStep, FitsOf, UnderWay}
-use Rattle.mmdb_query.specs.Ends.{WritesNone, Begins, TooManyCome, EndsBy}
+use Rattle.mmdb_query.specs.Steps.{is_memory, IsTried, IsPut, TakesItem, TakesKnown, TakesStep, StopsStep, PutsStep, FitsOf, UnderWay}
+use Rattle.mmdb_query.specs.Ends.{IsOfOutput, WritesNone, Leaves, left_of, BreaksOff, TooManyCome, StopsBy, EndsBy}
 use Rattle.mmdb_query.specs.declared.error.QueryError.{QueryError}
 use Rattle.mmdb_query.specs.declared.error.QueryError.TheVariants as ends
 use Rattle.mmdb_query.proofs.WalkLaws.{goes_none, goes_on}
@@ -108,31 +108,55 @@ module _ {W X : Type 0} (comes : W → List Item → Type 0) (a : Asked X) where
     written = way.written;
   }
 
-  -- where nothing more is written, that is what is written of some first items
-  begun : (first now : W) (old one : X) (before at after : Option (List ℕ)) (faults count : ℕ) → UnderWay comes a first now old one before at faults count → Appends at after []
-      → Begins comes a first old before after
-  begun first now old one before at after faults count way none = record {
+  -- of the next item nothing was written, where memory is out
+  stopped_before : (first now : W) (old one : X) (before at after : Option (List ℕ)) (faults count : ℕ) → UnderWay comes a first now old one before at faults count → Appends at after []
+      → BreaksOff comes a first old before after ends.Memory
+  stopped_before first now old one before at after faults count way none = record {
     later = now;
     items = way.done;
     put = way.put;
     text = way.text;
+    part = [];
     new = one;
     faults = faults;
     first = way.came;
     picked = way.picked;
     ran = way.ran;
-    written = subst (Appends before after) (append-nil way.text) (Appends-trans before at after way.text [] way.written none);
+    left = inl (refl, refl);
+    written = Appends-trans before at after way.text [] way.written none;
   }
 
-  pub none_begun : (first : W) (old : X) (before : Option (List ℕ)) → Begins comes a first old before before
-  none_begun first old before = begun first first old old before before before 0 0 (started first old before) (Appends-nil before)
+  unread_stopped : (first now : W) (old one : X) (before at after : Option (List ℕ)) (faults count : ℕ) (e : QueryError) → UnderWay comes a first now old one before at faults count
+      → WritesNone at after e → StopsBy comes a first old before after e
+  unread_stopped first now old one before at after faults count ends.Memory way none = stopped_before first now old one before at after faults count way none
+  unread_stopped first now old one before at after faults count (ends.Write x) way none = tt
+  unread_stopped first now old one before at after faults count ends.TooMany way none = absurd none
+  unread_stopped first now old one before at after faults count ends.OutOfOrder way none = absurd none
 
-  pub ended_early : (first now : W) (old one : X) (before at after : Option (List ℕ)) (faults count : ℕ) (e : QueryError) → UnderWay comes a first now old one before at faults count
-      → WritesNone at after e → EndsBy comes a first old before after e
-  ended_early first now old one before at after faults count ends.Memory way none = begun first now old one before at after faults count way none
-  ended_early first now old one before at after faults count (ends.Write x) way none = tt
-  ended_early first now old one before at after faults count ends.TooMany way none = absurd none
-  ended_early first now old one before at after faults count ends.OutOfOrder way none = absurd none
+  -- what was written of the next network, which was not put
+  network_stopped : (first now next : W) (old one : X) (before at after : Option (List ℕ)) (faults count : ℕ) (e : QueryError) (had : Had) → UnderWay comes a first now old one before at faults count
+      → Goes comes now (Found had ∷ []) next → (part : List ℕ) → left_of a had one part e → Appends at after part → BreaksOff comes a first old before after e
+  network_stopped first now next old one before at after faults count e had way goes part left written = record {
+    later = now;
+    items = way.done;
+    put = way.put;
+    text = way.text;
+    part = part;
+    new = one;
+    faults = faults;
+    first = way.came;
+    picked = way.picked;
+    ran = way.ran;
+    left = elim left [ inl none ↦ inl none | inr (says, leaves) ↦ inr (had, next, goes, says, leaves) ];
+    written = Appends-trans before at after way.text part way.written written;
+  }
+
+  found_stopped : (first now next : W) (old one : X) (before at after : Option (List ℕ)) (faults count : ℕ) (e : QueryError) (had : Had) → UnderWay comes a first now old one before at faults count
+      → Goes comes now (Found had ∷ []) next → Leaves (left_of a had one) at after e → StopsBy comes a first old before after e
+  found_stopped first now next old one before at after faults count ends.Memory had way goes (part, left, written) = network_stopped first now next old one before at after faults count ends.Memory had way goes part left written
+  found_stopped first now next old one before at after faults count (ends.Write x) had way goes left = tt
+  found_stopped first now next old one before at after faults count ends.TooMany had way goes left = absurd left
+  found_stopped first now next old one before at after faults count ends.OutOfOrder had way goes (part, left, written) = network_stopped first now next old one before at after faults count ends.OutOfOrder had way goes part left written
 
   pub too_many : (first now : W) (old one : X) (before at : Option (List ℕ)) (faults count : ℕ) → UnderWay comes a first now old one before at faults count
       → count ≡ 18446744073709551615 → TooManyCome comes first
@@ -147,6 +171,42 @@ step_taken comes of s sections had (Ok answer) first now next old one new before
     item_taken comes (of s) first now next old one new before at after faults added count (Found (had answer)) way step (subst (λ t. TakesItem (of t) (Found (had answer)) added one new at after) same takes)
 step_taken comes of s sections had (Err e) first now next old one new before at after faults added count way step same (is, once, kept, written) =
     unread_taken comes (of s) first now next old one new before at after faults added count way (unless_memory e is step) once kept written
+
+-- what was written of an item that was not put
+pub ended_early : {W A X : Type 0} (comes : W → List Item → Type 0) (of : List (List ℕ) → Asked X) (s : List (List ℕ)) (sections : A → List (List ℕ)) (had : A → Had) (item : Result A MaxMindDbError)
+    (first now next : W) (old one : X) (before at after : Option (List ℕ)) (faults count : ℕ) (e : QueryError)
+    → UnderWay comes (of s) first now old one before at faults count → IsStep comes had now (Some item) next → IfOk item (λ answer. sections answer ≡ s)
+    → StopsStep of sections had item one at after e → StopsBy comes (of s) first old before after e
+ended_early comes of s sections had (Ok answer) first now next old one before at after faults count e way step same stops =
+    found_stopped comes (of s) first now next old one before at after faults count e (had answer) way step (subst (λ t. Leaves (left_of (of t) (had answer) one) at after e) same stops)
+ended_early comes of s sections had (Err x) first now next old one before at after faults count e way step same stops =
+    unread_stopped comes (of s) first now old one before at after faults count e way stops
+
+-- by a sink that leaves nothing of a network that it does not take
+module _ {W X : Type 0} (comes : W → List Item → Type 0) (a : Asked X) (none : (had : Had) (old : X) (text : List ℕ) (e : QueryError) → a.leaves had old text e → (e ≡ ends.Memory) × (text ≡ [])) where
+  left_none : (walk : W) (old : X) (before after : Option (List ℕ)) (e : QueryError) (b : BreaksOff comes a walk old before after e) → (e ≡ ends.Memory) × (b.part ≡ [])
+  left_none walk old before after e b = elim b.left [ inl is ↦ is | inr (had, later, goes, says, leaves) ↦ none had b.new b.part e leaves ]
+
+  ends_whole : (walk : W) (old : X) (before after : Option (List ℕ)) (e : QueryError) → StopsBy comes a walk old before after e → EndsBy comes a walk old before after e
+  ends_whole walk old before after ends.Memory b = record {
+    later = b.later;
+    items = b.items;
+    put = b.put;
+    text = b.text;
+    new = b.new;
+    faults = b.faults;
+    first = b.first;
+    picked = b.picked;
+    ran = b.ran;
+    written = subst (Appends before after) (ap (λ (t : List ℕ). b.text ++ t) (left_none walk old before after ends.Memory b).1 ∙ append-nil b.text) b.written;
+  }
+  ends_whole walk old before after (ends.Write x) b = tt
+  ends_whole walk old before after ends.TooMany b = b
+  ends_whole walk old before after ends.OutOfOrder b = let is = (left_none walk old before after ends.OutOfOrder b).0 in cc
+
+  pub ended_whole : {T : Type 0} (r : Result T QueryError) (walk : W) (old : X) (before after : Option (List ℕ)) → IfErr r (StopsBy comes a walk old before after) → IfErr r (EndsBy comes a walk old before after)
+  ended_whole (Ok x) walk old before after stops = tt
+  ended_whole (Err e) walk old before after stops = ends_whole walk old before after e stops
 
 -- what a walk handed out was given back to it
 pub stepped_back : {W A : Type 0} (comes : W → List Item → Type 0) (had : A → Had) (item : Result A MaxMindDbError) (now mid next : W)
@@ -171,11 +231,49 @@ all_same sections t s (Err e) of same = tt
 -- ---- memory that is out
 
 -- nothing was written before
-pub none_before : (e : QueryError) (before at after : Option (List ℕ)) → Appends before at [] → WritesNone at after e → WritesNone before after e
-none_before ends.Memory before at after none more = nothing_more before at after none more
-none_before (ends.Write x) before at after none more = tt
-none_before ends.TooMany before at after none more = more
-none_before ends.OutOfOrder before at after none more = more
+none_before : {X : Type 0} (a : Asked X) (had : Had) (e : QueryError) (old one : X) (before at after : Option (List ℕ)) → one ≡ old → Appends before at [] → Leaves (left_of a had one) at after e
+    → Leaves (left_of a had old) before after e
+none_before a had ends.Memory old one before at after same none (part, left, written) =
+    (part, subst (λ x. left_of a had x part ends.Memory) same left, Appends-trans before at after [] part none written)
+none_before a had (ends.Write x) old one before at after same none left = tt
+none_before a had ends.TooMany old one before at after same none left = left
+none_before a had ends.OutOfOrder old one before at after same none (part, left, written) =
+    (part, subst (λ x. left_of a had x part ends.OutOfOrder) same left, Appends-trans before at after [] part none written)
+
+-- nothing was written of a network
+of_output : {X : Type 0} (a : Asked X) (had : Had) (e : QueryError) (old : X) (before after : Option (List ℕ)) → IsOfOutput e → Appends before after [] → Leaves (left_of a had old) before after e
+of_output a had ends.Memory old before after is none = ([], inl (refl, refl), none)
+of_output a had (ends.Write x) old before after is none = tt
+of_output a had ends.TooMany old before after is none = absurd is
+of_output a had ends.OutOfOrder old before after is none = absurd is
+
+-- memory is out, and nothing was written
+pub out_of_memory : {X : Type 0} (a : Asked X) (had : Had) (old : X) (before after : Option (List ℕ)) → Appends before after [] → Leaves (left_of a had old) before after ends.Memory
+out_of_memory a had old before after none = ([], inl (refl, refl), none)
+
+-- a leaf that can't be read was reported
+pub leaf_reported : {A X : Type 0} (of : List (List ℕ) → Asked X) (sections : A → List (List ℕ)) (had : A → Had) (e : MaxMindDbError) (r : Result ℕ QueryError) (old new : X) (before after : Option (List ℕ))
+    → IfOk r (λ fault. (fault ≡ 1) × (is_memory e ≡ false)) → IfErr r IsOfOutput → new ≡ old → Appends before after [] → PutsStep of sections had (Err e) r old new before after
+leaf_reported of sections had e (Ok fault) old new before after (once, is) failed same none = (is, once, same, none)
+leaf_reported of sections had e (Err ends.Memory) old new before after reported failed same none = none
+leaf_reported of sections had e (Err (ends.Write x)) old new before after reported failed same none = tt
+leaf_reported of sections had e (Err ends.TooMany) old new before after reported failed same none = failed
+leaf_reported of sections had e (Err ends.OutOfOrder) old new before after reported failed same none = failed
+
+-- a network adds one at most to the count of those that can't be read
+few_faults : {X : Type 0} (a : Asked X) (had : Had) (put : List Had) (fault : ℕ) → IsPicked a (Found had) put fault → fault ≤ 1
+few_faults a had put fault (inl (chosen, zero)) = omega (arith, zero)
+few_faults a had put fault (inr (cant, none, once)) = omega (arith, once)
+
+pub few_put : {X : Type 0} (a : Asked X) (had : Had) (r : Result ℕ QueryError) (old new : X) (before after : Option (List ℕ)) → IsPut a had r old new before after → IfOk r (λ fault. fault ≤ 1)
+few_put a had (Ok fault) old new before after takes = few_faults a had takes.put fault takes.picked
+few_put a had (Err e) old new before after left = tt
+
+-- what a network that comes does
+pub step_put : {A X : Type 0} (of : List (List ℕ) → Asked X) (sections : A → List (List ℕ)) (had : A → Had) (answer : A) (r : Result ℕ QueryError) (old new : X) (before after : Option (List ℕ))
+    → IsPut (of (sections answer)) (had answer) r old new before after → PutsStep of sections had (Ok answer) r old new before after
+step_put of sections had answer (Ok fault) old new before after put = put
+step_put of sections had answer (Err e) old new before after left = left
 
 -- ---- one network
 
@@ -185,12 +283,12 @@ pub unsaid_tried : {X : Type 0} (a : Asked X) (had : Had) (e : MaxMindDbError) (
 unsaid_tried a had e old before cant = (apart_on e (λ p. inl p) cant, refl, Appends-nil before)
 
 -- a network that can't be put was reported
-pub tried_reported : {E X : Type 0} (a : Asked X) (had : Had) (r : Result ℕ E) (e : MaxMindDbError) (old one new : X) (before at after : Option (List ℕ))
-    → IsTried a had (Some e) old one before at → new ≡ one → IfOk r (λ fault. (fault ≡ 1) × (is_memory e ≡ false)) → Appends at after []
-    → IfOk r (λ fault. TakesItem a (Found had) fault old new before after)
-tried_reported a had (Ok fault) e old one new before at after (cant, kept, none) same (one-fault, is) more =
+pub tried_reported : {X : Type 0} (a : Asked X) (had : Had) (r : Result ℕ QueryError) (e : MaxMindDbError) (old one new : X) (before at after : Option (List ℕ))
+    → IsTried a had (Some e) old one before at → new ≡ one → IfOk r (λ fault. (fault ≡ 1) × (is_memory e ≡ false)) → IfErr r IsOfOutput → Appends at after []
+    → IsPut a had r old new before after
+tried_reported a had (Ok fault) e old one new before at after (cant, kept, none) same (one-fault, is) failed more =
     record { put = []; text = []; picked = inr (unless_memory e is cant, refl, one-fault); ran = (same ∙ kept, refl); written = nothing_more before at after none more }
-tried_reported a had (Err x) e old one new before at after tried same reported more = tt
+tried_reported a had (Err x) e old one new before at after (cant, kept, none) same reported failed more = of_output a had x old before after failed (nothing_more before at after none more)
 
 -- a network that is not chosen
 pub passed : {X : Type 0} (a : Asked X) (had : Had) (old : X) (before : Option (List ℕ)) → a.says had.offsets false → TakesItem a (Found had) 0 old old before before
@@ -210,6 +308,15 @@ chosen_tried a had (Ok None) old new before after says (text, put, written) = ch
 chosen_tried a had (Ok (Some e)) old new before after says (cant, kept, written) = (apart_on e (λ p. inr (says, p)) cant, kept, written)
 chosen_tried a had (Err x) old new before after says done = tt
 
+-- a chosen network was not taken
+pub chosen_left : {T X : Type 0} (a : Asked X) (had : Had) (r : Result T QueryError) (old : X) (before after : Option (List ℕ))
+    → a.says had.offsets true → IfErr r (Leaves (a.leaves had old) before after) → IfErr r (Leaves (left_of a had old) before after)
+chosen_left a had (Ok x) old before after says left = tt
+chosen_left a had (Err ends.Memory) old before after says (text, left, written) = (text, inr (says, left), written)
+chosen_left a had (Err (ends.Write x)) old before after says left = tt
+chosen_left a had (Err ends.TooMany) old before after says left = left
+chosen_left a had (Err ends.OutOfOrder) old before after says (text, left, written) = (text, inr (says, left), written)
+
 -- a network that is known to be chosen was taken at once, or nothing was taken
 pub known_taken : {E X : Type 0} (a : Asked X) (had : Had) (r : Result Bool E) (old new : X) (before after : Option (List ℕ))
     → a.says had.offsets true → IfOk r (λ done. IsDoneOrNot (a.puts had) done old new before after)
@@ -218,17 +325,17 @@ known_taken a had (Ok true) old new before after says (text, put, written) = cho
 known_taken a had (Ok false) old new before after says taken = taken
 known_taken a had (Err x) old new before after says taken = tt
 
--- an item was taken, and nothing was taken nor written before
-pub taken_after_none : {E X : Type 0} (a : Asked X) (item : Item) (r : Result ℕ E) (old one new : X) (before at after : Option (List ℕ))
-    → one ≡ old → Appends before at [] → IfOk r (λ fault. TakesItem a item fault one new at after) → IfOk r (λ fault. TakesItem a item fault old new before after)
-taken_after_none a item (Ok fault) old one new before at after same none taken = record {
+-- a network was put, and nothing was taken nor written before
+pub taken_after_none : {X : Type 0} (a : Asked X) (had : Had) (r : Result ℕ QueryError) (old one new : X) (before at after : Option (List ℕ))
+    → one ≡ old → Appends before at [] → IsPut a had r one new at after → IsPut a had r old new before after
+taken_after_none a had (Ok fault) old one new before at after same none taken = record {
   put = taken.put;
   text = taken.text;
   picked = taken.picked;
   ran = subst (λ x. Runs a.puts taken.put x taken.text new) same taken.ran;
   written = Appends-trans before at after [] taken.text none taken.written;
 }
-taken_after_none a item (Err x) old one new before at after same none taken = tt
+taken_after_none a had (Err e) old one new before at after same none left = none_before a had e old one before at after same none left
 
 -- a network was put, or can't be, and nothing was written before
 pub done_after_none : {E X : Type 0} (puts : X → List ℕ → X → Type 0) (unput : Type 0) (r : Result (Option MaxMindDbError) E) (old new : X) (before at after : Option (List ℕ))

@@ -12,6 +12,7 @@ pub mod Lists
 pub mod Abreast
 pub mod Ends
 pub mod Parts
+pub mod Listings
 -- What only contracts of private functions and proofs name.
 pub mod Kept
 pub mod Steps

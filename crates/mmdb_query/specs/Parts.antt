@@ -8,7 +8,7 @@ use Rattle.mmdb_net.specs.declared.network.IpNetwork.{IpNetwork}
 use Rattle.mmdb_blocks.specs.declared.kind.BlockKind.TheVariants.{Ipv4, Ipv6}
 use Rattle.mmdb_blocks.specs.declared.kind.Kinds.{Kinds}
 use Rattle.mmdb_blocks.specs.declared.kind.Kinds.TheVariants.{Both, One}
-use Rattle.mmdb_query.specs.Had.{Had, network_bits}
+use Rattle.mmdb_query.specs.Had.{Had, IsNetworkOf, network_bits}
 use Rattle.mmdb_query.specs.Walks.{Item}
 use Rattle.mmdb_query.specs.Walks.Item.{Found, Unread}
 use Rattle.mmdb_query.specs.Sets.{BeginsWith, IsFoundIn}
@@ -31,6 +31,16 @@ range_in had range = record { bits = network_bits range; as_ipv4 = is_ipv4 (ip_o
 abbrev pub clipped : Option IpNetwork → Had → Had
 clipped None had = had
 clipped (Some range) had = if has_range had range then range_in had range else had
+
+-- what is handed out of a network: all of it, or just this one
+abbrev pub handed : Option IpNetwork → Had → Had
+handed None had = had
+handed (Some part) had = record { bits = network_bits part; as_ipv4 = is_ipv4 (ip_of part); offsets = had.offsets }
+
+-- that is this
+abbrev pub IsHanded : Had → Had → Option IpNetwork → Type 0
+IsHanded out had None = out ≡ had
+IsHanded out had (Some part) = IsNetworkOf out part × (out.offsets ≡ had.offsets)
 
 -- What is handed out of items: of each network that is wanted what it has of a range, and each item that can't be read.
 abbrev pub parts_of : Kinds → Option IpNetwork → List Item → List Item

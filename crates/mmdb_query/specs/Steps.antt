@@ -7,7 +7,9 @@ use Rattle.mmdb_format.specs.declared.error.MaxMindDbError.TheVariants.{Memory, 
 use Rattle.mmdb_query.specs.Had.{Had}
 use Rattle.mmdb_query.specs.Walks.{Item, Goes}
 use Rattle.mmdb_query.specs.Walks.Item.{Found}
+use Rattle.mmdb_query.specs.Ends.{Leaves, left_of, WritesNone}
 use Rattle.mmdb_query.specs.Taking.{Asked, IsPicked, ArePicked, Runs, CantBePut}
+use Rattle.mmdb_query.specs.declared.error.QueryError.{QueryError}
 
 -- memory is out
 abbrev pub is_memory : MaxMindDbError → Bool
@@ -42,6 +44,22 @@ abbrev pub TakesStep : {A X : Type 0} → (List (List ℕ) → Asked X) → (A �
     → Option (List ℕ) → Option (List ℕ) → Type 0
 TakesStep of sections had (Ok answer) fault old new before after = TakesItem (of (sections answer)) (Found (had answer)) fault old new before after
 TakesStep of sections had (Err e) fault old new before after = (is_memory e ≡ false) × (fault ≡ 1) × (new ≡ old) × Appends before after []
+
+-- a network was put, as far as it is chosen and can be read; or it was not, and what was written of it
+abbrev pub IsPut : {X : Type 0} → Asked X → Had → Result ℕ QueryError → X → X → Option (List ℕ) → Option (List ℕ) → Type 0
+IsPut a had (Ok fault) old new before after = TakesItem a (Found had) fault old new before after
+IsPut a had (Err e) old new before after = Leaves (left_of a had old) before after e
+
+-- the same of what a walk hands out
+abbrev pub StopsStep : {A X : Type 0} → (List (List ℕ) → Asked X) → (A → List (List ℕ)) → (A → Had) → Result A MaxMindDbError → X
+    → Option (List ℕ) → Option (List ℕ) → QueryError → Type 0
+StopsStep of sections had (Ok answer) old before after e = Leaves (left_of (of (sections answer)) (had answer) old) before after e
+StopsStep of sections had (Err unread) old before after e = WritesNone before after e
+
+abbrev pub PutsStep : {A X : Type 0} → (List (List ℕ) → Asked X) → (A → List (List ℕ)) → (A → Had) → Result A MaxMindDbError → Result ℕ QueryError → X → X
+    → Option (List ℕ) → Option (List ℕ) → Type 0
+PutsStep of sections had item (Ok fault) old new before after = TakesStep of sections had item fault old new before after
+PutsStep of sections had item (Err e) old new before after = StopsStep of sections had item old before after e
 
 -- what is kept fits all data sections that it fitted
 abbrev pub FitsStill : {K : Type 0} → (List (List ℕ) → K → Type 0) → K → K → Type 0

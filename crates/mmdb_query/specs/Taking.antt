@@ -6,20 +6,24 @@ use Rattle.mmdb_format.specs.declared.error.MaxMindDbError.{MaxMindDbError}
 use Rattle.mmdb_query.specs.Had.{Had}
 use Rattle.mmdb_query.specs.Walks.{Item}
 use Rattle.mmdb_query.specs.Walks.Item.{Found, Unread}
+use Rattle.mmdb_query.specs.declared.error.QueryError.{QueryError}
 
 -- What is asked of the records at offsets: whether they meet conditions, or that this can't be read; what a sink took before a
--- network, what it writes of it, and what it took then, or that what this needs can't be read.
+-- network, what it writes of it, and what it took then, or that what this needs can't be read; and what it may have written of a
+-- network that it did not take, and why.
 pub record Asked (X : Type 0) : Type 1 where
   pub says : List (Option ℕ) → Bool → Type 0
   pub unsaid : List (Option ℕ) → Type 0
   pub puts : Had → X → List ℕ → X → Type 0
   pub unput : List (Option ℕ) → Type 0
+  pub leaves : Had → X → List ℕ → QueryError → Type 0
 
 -- the same by conditions and the form of a sink, of these data sections
 abbrev pub asks : {C F X : Type 0} → (C → List (List ℕ) → List (Option ℕ) → Bool → Type 0) → (C → List (List ℕ) → List (Option ℕ) → Type 0)
-    → (F → List (List ℕ) → Had → X → List ℕ → X → Type 0) → (F → List (List ℕ) → List (Option ℕ) → Type 0) → C → F → List (List ℕ) → Asked X
-asks says unsaid puts unput conditions form s =
-    record { says = says conditions s; unsaid = unsaid conditions s; puts = puts form s; unput = unput form s }
+    → (F → List (List ℕ) → Had → X → List ℕ → X → Type 0) → (F → List (List ℕ) → List (Option ℕ) → Type 0)
+    → (F → List (List ℕ) → Had → X → List ℕ → QueryError → Type 0) → C → F → List (List ℕ) → Asked X
+asks says unsaid puts unput leaves conditions form s =
+    record { says = says conditions s; unsaid = unsaid conditions s; puts = puts form s; unput = unput form s; leaves = leaves form s }
 
 -- One network was put, and known output grew by what is written of it; or what it needs can't be read.
 abbrev pub IsDone : {X : Type 0} → (X → List ℕ → X → Type 0) → Type 0 → Option MaxMindDbError → X → X → Option (List ℕ) → Option (List ℕ) → Type 0

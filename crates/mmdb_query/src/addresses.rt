@@ -3,6 +3,7 @@ ghost use Rattle.std.specs.Prelude.{◌≡◌, ◌⊎◌, ◌↔◌, ◌<◌, �
 ghost use Rattle.mmdb_blocks.specs.Ranges.{IsAmong};
 ghost use Rattle.mmdb_reader.specs.File.{data_section};
 ghost use Rattle.mmdb_query.specs.Answered.{HasOnlyMet, HasAllMet};
+ghost use Rattle.mmdb_query.specs.Ends.{leaves_none};
 ghost use Rattle.mmdb_query.specs.Had.{network_bits};
 ghost use Rattle.mmdb_query.specs.Parts.{ComesInPart};
 ghost use Rattle.mmdb_query.specs.Rows.{nothing};
@@ -93,6 +94,8 @@ impl Sink for Addresses {
 
     ghost is_unread = { needs_nothing };
 
+    ghost leaves = { leaves_none };
+
     ghost fits = { λ _ _. Unit {0} };
 
     #[inline(always)]
@@ -131,8 +134,8 @@ pub fn gather<W: Walk, C: Conditions, F: Faults>(
     faults: &mut F,
 ) -> Result<(Addresses, u64), QueryError>
     ensures { IfOk result (λ found. IsGathered (W.comes walk.old)
-        (asks C.says C.is_unread puts_addresses needs_nothing conditions.now nothing
-        (W.sections walk.old)) found.0 found.1) }
+        (asks C.says C.is_unread puts_addresses needs_nothing leaves_none conditions.now
+        nothing (W.sections walk.old)) found.0 found.1) }
 {
     let mut addresses = Addresses::new(alloc);
     let unread = put_each(
@@ -156,8 +159,8 @@ pub fn gather_part<W: Walk + Drop, C: Conditions, F: Faults>(
     faults: &mut F,
 ) -> Result<(Addresses, u64), QueryError>
     ensures { IfOk result (λ found. IsGathered (ComesInPart kinds range (W.comes walk))
-        (asks C.says C.is_unread puts_addresses needs_nothing conditions.now nothing
-        (W.sections walk)) found.0 found.1) }
+        (asks C.says C.is_unread puts_addresses needs_nothing leaves_none conditions.now
+        nothing (W.sections walk)) found.0 found.1) }
 {
     let mut walk = walk;
     if let (Kinds::Both, None) = (kinds, range) {

@@ -1,15 +1,38 @@
 //! What databases have for an address or a network.
 ghost use Rattle.std.specs.Prelude.{◌≡◌, ℕ, List, IfSome};
-ghost use Rattle.mmdb_query.specs.Had.{Had, IsNetworkOf, offset_at, has_one};
+ghost use Rattle.std.specs.Net.Addr.{is_ipv4};
+ghost use Rattle.mmdb_net.specs.Network.{ip_of};
+ghost use Rattle.mmdb_query.specs.Had.{Had, IsNetworkOf, network_bits, offset_at, has_one};
 ghost use Rattle.mmdb_query.specs.Keys.{IsKey};
+ghost use Rattle.mmdb_query.specs.Listings.{HasBits};
 ghost use Rattle.mmdb_query.specs.Reading.{values_of, outlines_of, value_of, IsReadAs};
 
 use crate::numbered::network_of;
 use crate::values::{outline_along, value_along};
+use mmdb_blocks::Block;
 use mmdb_reader::{IpNetwork, LookupResult, MaxMindDbError, PathElement};
 use mmdb_value::Value;
 use std::alloc::Global;
 use std::convert::AsSlice;
+
+/// The addresses of a network as a block of numbers, and whether it is one of IPv4.
+#[derive(Clone, Copy)]
+pub struct NetworkBlock {
+    pub block: Block,
+    pub is_ipv4: bool,
+}
+
+/// The addresses of a network.
+#[inline(always)]
+pub(crate) fn block_of(network: IpNetwork) -> NetworkBlock
+    ensures kind { result.is_ipv4 ≡ is_ipv4 (ip_of network) }
+    ensures block { HasBits result.block (network_bits network) }
+{
+    NetworkBlock {
+        block: Block::of_network(network),
+        is_ipv4: matches!(network, IpNetwork::V4(_)),
+    }
+}
 
 /// What databases have for an address or a network: one of them, or several in their order.
 pub trait Answer: Drop {
@@ -22,6 +45,11 @@ pub trait Answer: Drop {
     /// The network in which all addresses have this answer.
     fn network(&self) -> IpNetwork
         ensures { IsNetworkOf (had self.now) result };
+
+    /// The addresses of that network.
+    fn block(&self) -> NetworkBlock
+        ensures kind { result.is_ipv4 ≡ (had self.now).as_ipv4 }
+        ensures block { HasBits result.block (had self.now).bits };
 
     /// A number that no other records of these databases have, unless it is too large.
     fn key(&self) -> Option<usize>
@@ -76,6 +104,15 @@ impl<'a, S: AsSlice<u8> + Drop> Answer for LookupResult<'a, S> {
     #[inline(always)]
     fn network(&self) -> IpNetwork {
         network_of(self.numbered_network())
+    }
+
+    #[inline(always)]
+    fn block(&self) -> NetworkBlock {
+        let numbers = self.numbered_network();
+        NetworkBlock {
+            block: Block::of_numbers(numbers.first, numbers.width, numbers.prefix),
+            is_ipv4: numbers.width == 32,
+        }
     }
 
     #[inline(always)]

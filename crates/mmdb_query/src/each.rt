@@ -2,12 +2,12 @@
 ghost use Rattle.std.specs.Prelude.{◌≡◌, ◌≤◌, ◌+◌, ℕ, List, [], false, IfOk, IfErr, length};
 ghost use Rattle.std.specs.Io.KnownBytes.{Appends};
 ghost use Rattle.mmdb_format.specs.Error.{MemoryApart};
-ghost use Rattle.mmdb_query.specs.Ends.{IsOfOutput, WritesNone, EndsBy};
+ghost use Rattle.mmdb_query.specs.Ends.{IsOfOutput, Leaves, left_of, StopsBy};
 ghost use Rattle.mmdb_query.specs.Kept.{ChoiceFits};
 ghost use Rattle.mmdb_query.specs.Walks.{Goes};
 ghost use Rattle.mmdb_query.specs.Walks.Item.{Found};
 ghost use Rattle.mmdb_query.specs.Taking.{asks, CantBePut, Takes};
-ghost use Rattle.mmdb_query.specs.Steps.{TakesItem, TakesKnown, TakesStep, IsTried, FitsOf, FitsStill, is_memory as spec_is_memory};
+ghost use Rattle.mmdb_query.specs.Steps.{TakesKnown, IsPut, PutsStep, IsTried, FitsOf, FitsStill, is_memory as spec_is_memory};
 
 use crate::answer::Answer;
 use crate::choice::{Choice, Conditions};
@@ -81,10 +81,13 @@ fn put_known<A: Answer, S: Sink, C: Conditions, O: Write>(
     requires choice { ChoiceFits C.says (A.sections answer.now) choice.now }
     requires sink { S.fits (A.sections answer.now) sink.old }
     ensures put { IfOk result (λ is_done. TakesKnown
-        (asks C.says C.is_unread S.puts S.is_unread choice.now.conditions.now (S.form sink.old)
-        (A.sections answer.now)) (Found (A.had answer.now)) is_done
+        (asks C.says C.is_unread S.puts S.is_unread S.leaves choice.now.conditions.now
+        (S.form sink.old) (A.sections answer.now)) (Found (A.had answer.now)) is_done
         (S.took sink.old) (S.took sink.new) (O.contents out.old) (O.contents out.new)) }
-    ensures failed { IfErr result (WritesNone (O.contents out.old) (O.contents out.new)) }
+    ensures failed { IfErr result (Leaves (left_of
+        (asks C.says C.is_unread S.puts S.is_unread S.leaves choice.now.conditions.now
+        (S.form sink.old) (A.sections answer.now)) (A.had answer.now) (S.took sink.old))
+        (O.contents out.old) (O.contents out.new)) }
     ensures sink { S.fits (A.sections answer.now) sink.new }
     ensures form { S.form sink.new ≡ S.form sink.old }
 {
@@ -106,11 +109,14 @@ fn put_chosen<A: Answer, S: Sink, C: Conditions, O: Write>(
     requires choice { ChoiceFits C.says (A.sections answer.now) choice.old }
     requires sink { S.fits (A.sections answer.now) sink.old }
     ensures tried { IfOk result (λ unread. IsTried
-        (asks C.says C.is_unread S.puts S.is_unread choice.old.conditions.now (S.form sink.old)
-        (A.sections answer.now)) (A.had answer.now) unread
+        (asks C.says C.is_unread S.puts S.is_unread S.leaves choice.old.conditions.now
+        (S.form sink.old) (A.sections answer.now)) (A.had answer.now) unread
         (S.took sink.old) (S.took sink.new)
         (O.contents out.old) (O.contents out.new)) }
-    ensures failed { IfErr result (WritesNone (O.contents out.old) (O.contents out.new)) }
+    ensures failed { IfErr result (Leaves (left_of
+        (asks C.says C.is_unread S.puts S.is_unread S.leaves choice.old.conditions.now
+        (S.form sink.old) (A.sections answer.now)) (A.had answer.now) (S.took sink.old))
+        (O.contents out.old) (O.contents out.new)) }
     ensures choice { ChoiceFits C.says (A.sections answer.now) choice.new }
     ensures sink { S.fits (A.sections answer.now) sink.new }
     ensures same { choice.new.conditions.now ≡ choice.old.conditions.now }
@@ -135,21 +141,19 @@ fn put_again<A: Answer, S: Sink, C: Conditions, O: Write, F: Faults>(
 ) -> Result<u64, QueryError>
     requires choice { ChoiceFits C.says (A.sections answer.now) choice.old }
     requires sink { S.fits (A.sections answer.now) sink.old }
-    ensures put { IfOk result (λ fault. TakesItem
-        (asks C.says C.is_unread S.puts S.is_unread choice.old.conditions.now (S.form sink.old)
-        (A.sections answer.now)) (Found (A.had answer.now)) fault
-        (S.took sink.old) (S.took sink.new)
-        (O.contents out.old) (O.contents out.new)) }
-    ensures failed { IfErr result (WritesNone (O.contents out.old) (O.contents out.new)) }
-    ensures few { IfOk result (λ fault. fault ≤ 1) }
+    ensures put { IsPut
+        (asks C.says C.is_unread S.puts S.is_unread S.leaves choice.old.conditions.now
+        (S.form sink.old) (A.sections answer.now)) (A.had answer.now) result
+        (S.took sink.old) (S.took sink.new) (O.contents out.old) (O.contents out.new) }
     ensures choice { ChoiceFits C.says (A.sections answer.now) choice.new }
     ensures sink { S.fits (A.sections answer.now) sink.new }
     ensures same { choice.new.conditions.now ≡ choice.old.conditions.now }
     ensures form { S.form sink.new ≡ S.form sink.old }
 {
-    match put_chosen(choice, sink, answer, out)? {
-        None => Ok(0),
-        Some(error) => report_of(sink, &Fault::Network(answer), &error, out, faults),
+    match put_chosen(choice, sink, answer, out) {
+        Ok(None) => Ok(0),
+        Ok(Some(error)) => report_of(sink, &Fault::Network(answer), &error, out, faults),
+        Err(error) => Err(error),
     }
 }
 
@@ -165,17 +169,14 @@ fn put_failed<A: Answer, S: Sink, C: Conditions, O: Write, F: Faults>(
     faults: &mut F,
 ) -> Result<u64, QueryError>
     requires unread { MemoryApart error (CantBePut
-        (asks C.says C.is_unread S.puts S.is_unread choice.old.conditions.now (S.form sink.old)
-        (A.sections answer.now)) (A.had answer.now)) }
+        (asks C.says C.is_unread S.puts S.is_unread S.leaves choice.old.conditions.now
+        (S.form sink.old) (A.sections answer.now)) (A.had answer.now)) }
     requires choice { ChoiceFits C.says (A.sections answer.now) choice.old }
     requires sink { S.fits (A.sections answer.now) sink.old }
-    ensures put { IfOk result (λ fault. TakesItem
-        (asks C.says C.is_unread S.puts S.is_unread choice.old.conditions.now (S.form sink.old)
-        (A.sections answer.now)) (Found (A.had answer.now)) fault
-        (S.took sink.old) (S.took sink.new)
-        (O.contents out.old) (O.contents out.new)) }
-    ensures failed { IfErr result (WritesNone (O.contents out.old) (O.contents out.new)) }
-    ensures few { IfOk result (λ fault. fault ≤ 1) }
+    ensures put { IsPut
+        (asks C.says C.is_unread S.puts S.is_unread S.leaves choice.old.conditions.now
+        (S.form sink.old) (A.sections answer.now)) (A.had answer.now) result
+        (S.took sink.old) (S.took sink.new) (O.contents out.old) (O.contents out.new) }
     ensures choice { ChoiceFits C.says (A.sections answer.now) choice.new }
     ensures sink { S.fits (A.sections answer.now) sink.new }
     ensures same { choice.new.conditions.now ≡ choice.old.conditions.now }
@@ -201,21 +202,19 @@ fn put_anew<A: Answer, S: Sink, C: Conditions, O: Write, F: Faults>(
 ) -> Result<u64, QueryError>
     requires choice { ChoiceFits C.says (A.sections answer.now) choice.old }
     requires sink { S.fits (A.sections answer.now) sink.old }
-    ensures put { IfOk result (λ fault. TakesItem
-        (asks C.says C.is_unread S.puts S.is_unread choice.old.conditions.now (S.form sink.old)
-        (A.sections answer.now)) (Found (A.had answer.now)) fault
-        (S.took sink.old) (S.took sink.new)
-        (O.contents out.old) (O.contents out.new)) }
-    ensures failed { IfErr result (WritesNone (O.contents out.old) (O.contents out.new)) }
-    ensures few { IfOk result (λ fault. fault ≤ 1) }
+    ensures put { IsPut
+        (asks C.says C.is_unread S.puts S.is_unread S.leaves choice.old.conditions.now
+        (S.form sink.old) (A.sections answer.now)) (A.had answer.now) result
+        (S.took sink.old) (S.took sink.new) (O.contents out.old) (O.contents out.new) }
     ensures choice { ChoiceFits C.says (A.sections answer.now) choice.new }
     ensures sink { S.fits (A.sections answer.now) sink.new }
     ensures same { choice.new.conditions.now ≡ choice.old.conditions.now }
     ensures form { S.form sink.new ≡ S.form sink.old }
 {
-    match put_chosen(choice, sink, answer, out)? {
-        None => Ok(0),
-        Some(error) => put_failed(choice, sink, answer, error, out, faults),
+    match put_chosen(choice, sink, answer, out) {
+        Ok(None) => Ok(0),
+        Ok(Some(error)) => put_failed(choice, sink, answer, error, out, faults),
+        Err(error) => Err(error),
     }
 }
 
@@ -230,22 +229,20 @@ fn put_answer<A: Answer, S: Sink, C: Conditions, O: Write, F: Faults>(
 ) -> Result<u64, QueryError>
     requires choice { ChoiceFits C.says (A.sections answer.now) choice.old }
     requires sink { S.fits (A.sections answer.now) sink.old }
-    ensures put { IfOk result (λ fault. TakesItem
-        (asks C.says C.is_unread S.puts S.is_unread choice.old.conditions.now (S.form sink.old)
-        (A.sections answer.now)) (Found (A.had answer.now)) fault
-        (S.took sink.old) (S.took sink.new)
-        (O.contents out.old) (O.contents out.new)) }
-    ensures failed { IfErr result (WritesNone (O.contents out.old) (O.contents out.new)) }
-    ensures few { IfOk result (λ fault. fault ≤ 1) }
+    ensures put { IsPut
+        (asks C.says C.is_unread S.puts S.is_unread S.leaves choice.old.conditions.now
+        (S.form sink.old) (A.sections answer.now)) (A.had answer.now) result
+        (S.took sink.old) (S.took sink.new) (O.contents out.old) (O.contents out.new) }
     ensures choice { ChoiceFits C.says (A.sections answer.now) choice.new }
     ensures sink { S.fits (A.sections answer.now) sink.new }
     ensures same { choice.new.conditions.now ≡ choice.old.conditions.now }
     ensures form { S.form sink.new ≡ S.form sink.old }
 {
-    if put_known(choice, sink, answer, out)? {
-        return Ok(0);
+    match put_known(choice, sink, answer, out) {
+        Ok(true) => Ok(0),
+        Ok(false) => put_anew(choice, sink, answer, out, faults),
+        Err(error) => Err(error),
     }
-    put_anew(choice, sink, answer, out, faults)
 }
 
 // The same of the last item of a walk.
@@ -261,11 +258,10 @@ fn put_item<W: Walk, S: Sink, C: Conditions, O: Write, F: Faults>(
     requires choice { IfOk item
         (λ answer. ChoiceFits C.says (W.Item.sections answer) choice.old) }
     requires sink { IfOk item (λ answer. S.fits (W.Item.sections answer) sink.old) }
-    ensures put { IfOk result (λ fault. TakesStep
-        (asks C.says C.is_unread S.puts S.is_unread choice.old.conditions.now (S.form sink.old))
-        W.Item.sections W.Item.had item fault (S.took sink.old) (S.took sink.new)
-        (O.contents out.old) (O.contents out.new)) }
-    ensures failed { IfErr result (WritesNone (O.contents out.old) (O.contents out.new)) }
+    ensures put { PutsStep
+        (asks C.says C.is_unread S.puts S.is_unread S.leaves choice.old.conditions.now
+        (S.form sink.old)) W.Item.sections W.Item.had item result
+        (S.took sink.old) (S.took sink.new) (O.contents out.old) (O.contents out.new) }
     ensures few { IfOk result (λ fault. fault ≤ 1) }
     ensures walk { Goes W.comes walk.old [] walk.new }
     ensures sections { W.sections walk.new ≡ W.sections walk.old }
@@ -276,9 +272,9 @@ fn put_item<W: Walk, S: Sink, C: Conditions, O: Write, F: Faults>(
 {
     match item {
         Ok(answer) => {
-            let fault = put_answer(choice, sink, &answer, out, faults)?;
+            let put = put_answer(choice, sink, &answer, out, faults);
             walk.give_back(answer);
-            Ok(fault)
+            put
         }
         Err(error) => {
             let leaf: Fault<'_, W::Item> = Fault::Leaf(walk.unread_leaf());
@@ -290,7 +286,8 @@ fn put_item<W: Walk, S: Sink, C: Conditions, O: Write, F: Faults>(
 /// Gives the networks of a walk that meet all conditions to a sink, one by one, reports each that can't be read, and says how
 /// many can't. Where memory is out, what the sink keeps is dropped, and it is tried once more.
 ///
-/// An `Err` is of the output; of memory, and then what was written is of some first networks; or more come than can be counted.
+/// An `Err` is of the output; or of memory, or the sink did not take a network, and then what was written is of some first networks
+/// and what the sink left of the next; or more come than can be counted.
 pub fn put_each<W: Walk, S: Sink, C: Conditions, O: Write, F: Faults>(
     alloc: Global,
     walk: &mut W,
@@ -301,11 +298,11 @@ pub fn put_each<W: Walk, S: Sink, C: Conditions, O: Write, F: Faults>(
 ) -> Result<u64, QueryError>
     requires { S.fits (W.sections walk.old) sink.old }
     ensures taken { IfOk result (λ unread. Takes (W.comes walk.old)
-        (asks C.says C.is_unread S.puts S.is_unread conditions.now (S.form sink.old)
+        (asks C.says C.is_unread S.puts S.is_unread S.leaves conditions.now (S.form sink.old)
         (W.sections walk.old)) (S.took sink.old) (S.took sink.new)
         (O.contents out.old) (O.contents out.new) unread) }
-    ensures failed { IfErr result (EndsBy W.comes
-        (asks C.says C.is_unread S.puts S.is_unread conditions.now (S.form sink.old)
+    ensures failed { IfErr result (StopsBy W.comes
+        (asks C.says C.is_unread S.puts S.is_unread S.leaves conditions.now (S.form sink.old)
         (W.sections walk.old)) walk.old (S.took sink.old)
         (O.contents out.old) (O.contents out.new)) }
     ensures form { S.form sink.new ≡ S.form sink.old }

@@ -1,5 +1,5 @@
 //! What one database has for an address or a network, or several have: one answer, which conditions choose, and which is put
-//! into rows or into sets of addresses.
+//! into rows, into sets of addresses or into lists.
 #![tactic(auto)]
 
 mod address_blocks;
@@ -9,6 +9,7 @@ mod choice;
 mod each;
 mod error;
 pub mod laws;
+mod listing;
 mod many;
 mod numbered;
 mod outline;
@@ -22,10 +23,11 @@ mod walk;
 
 pub use address_blocks::{AddressBlocks, blocks, list_all};
 pub use addresses::{Addresses, gather, gather_all, gather_part};
-pub use answer::Answer;
+pub use answer::{Answer, NetworkBlock};
 pub use choice::{Choice, Conditions};
 pub use each::put_each;
 pub use error::{Fault, Faults, QueryError};
+pub use listing::{Listing, list_part};
 pub use many::Many;
 pub use part::{Clipped, Part};
 pub use rows::{Rows, export_rows};

@@ -1,16 +1,18 @@
 //! A walk of which only a part is wanted.
-ghost use Rattle.std.specs.Prelude.{◌≡◌, ◌||◌, take, true, false, IfSome, IfNone};
+ghost use Rattle.std.specs.Prelude.{◌≡◌, ◌≤◌, ◌||◌, length, take, true, false, Some, IfSome, IfNone};
 ghost use Rattle.std.specs.Bool.{beq};
 ghost use Rattle.std.specs.List.{starts_with};
+ghost use Rattle.std.specs.Option.{ForSome};
 ghost use Rattle.std.specs.Net.Addr.{is_ipv4 as spec_is_ipv4};
 ghost use Rattle.mmdb_net.specs.Address.{IsMaskedIp};
 ghost use Rattle.mmdb_net.specs.Bits.{bits_of};
 ghost use Rattle.mmdb_net.specs.Network.{ip_of, prefix_of};
 ghost use Rattle.mmdb_blocks.specs.Blocks.{IsBlock};
 ghost use Rattle.mmdb_query.specs.Had.{Had, IsNetworkOf, network_bits};
-ghost use Rattle.mmdb_query.specs.Parts.{is_wanted as spec_is_wanted, clipped};
+ghost use Rattle.mmdb_query.specs.Listings.{HasBits};
+ghost use Rattle.mmdb_query.specs.Parts.{is_wanted as spec_is_wanted, clipped, handed, IsHanded};
 
-use crate::answer::Answer;
+use crate::answer::{Answer, NetworkBlock, block_of};
 use crate::segment::network_of_block;
 use crate::walk::{UnreadLeaf, Walk};
 use mmdb_blocks::{Block, BlockKind, Kinds};
@@ -18,8 +20,9 @@ use mmdb_reader::{IpNetwork, MaxMindDbError, PathElement};
 use mmdb_value::Value;
 use std::alloc::Global;
 
-// Whether a network is one of IPv4.
-fn is_ipv4(network: IpNetwork) -> bool
+/// Whether a network is one of IPv4.
+#[inline(always)]
+pub(crate) fn is_ipv4(network: IpNetwork) -> bool
     ensures { result ≡ spec_is_ipv4 (ip_of network) }
 {
     match network {
@@ -33,6 +36,16 @@ fn is_one_ipv4(some: IpNetwork, other: IpNetwork) -> bool
     ensures { result ≡ spec_is_ipv4 (ip_of some) || spec_is_ipv4 (ip_of other) }
 {
     is_ipv4(some) || is_ipv4(other)
+}
+
+// How many bits the addresses of a network begin with at most.
+fn depth_of(network: IpNetwork) -> u8
+    ensures { length (network_bits network) ≤ result }
+{
+    match network {
+        IpNetwork::V4(network) => 96 + network.prefix(),
+        IpNetwork::V6(network) => network.prefix(),
+    }
 }
 
 // Whether networks of a kind are wanted: of IPv4, or of IPv6.
@@ -59,52 +72,61 @@ fn has_block(whole: Block, part: Block) -> bool
     part.first <= whole.last()
 }
 
-// What is handed out of a network: just the range, where it has all addresses of that.
-#[inline(always)]
-fn clip_to(range: IpNetwork, network: IpNetwork) -> IpNetwork
+// The range, where a network has all addresses of it, so that no more is handed out.
+fn clip_to(range: IpNetwork, network: IpNetwork) -> Option<IpNetwork>
     ensures { (had : Had) → IsNetworkOf had network
-        → IsNetworkOf (clipped (Some range) had) result }
+        → IsHanded (clipped (Some range) had) had result }
 {
     let part = Block::of_network(range);
     if has_block(Block::of_network(network), part) {
-        network_of_block(part, is_one_ipv4(range, network))
+        Some(network_of_block(part, is_one_ipv4(range, network)))
     } else {
-        network
+        None
     }
 }
 
-// The same where there may be no range.
+// The same where there may be no range. Most networks have fewer addresses than the range.
 #[inline(always)]
-fn clip(range: Option<IpNetwork>, network: IpNetwork) -> IpNetwork
-    ensures { (had : Had) → IsNetworkOf had network → IsNetworkOf (clipped range had) result }
+fn clip<A: Answer>(range: Option<IpNetwork>, whole: &A, block: Block) -> Option<IpNetwork>
+    requires { HasBits block (A.had whole.now).bits }
+    ensures { IsHanded (clipped range (A.had whole.now)) (A.had whole.now) result }
 {
-    match range {
-        Some(range) => clip_to(range, network),
-        None => network,
+    let range = range?;
+    if block.prefix > depth_of(range) {
+        return None;
     }
+    clip_to(range, whole.network())
 }
 
 /// What databases have in a network, of which no more than a part may be wanted.
 #[derive(Drop)]
 pub struct Clipped<A: Answer> {
     pub(crate) whole: A,
-    pub(crate) network: IpNetwork,
-    ghost masked: { IsMaskedIp (ip_of network) (prefix_of network) (ip_of network) },
+    /// Of which network, where that is not the whole.
+    pub(crate) part: Option<IpNetwork>,
+    ghost masked: { ForSome part (λ n. IsMaskedIp (ip_of n) (prefix_of n) (ip_of n)) },
 }
 
 /// The same as in the whole network.
 impl<A: Answer> Answer for Clipped<A> {
     ghost sections = { λ c. A.sections c.whole };
 
-    ghost had = { λ c. record {
-      bits = network_bits c.network;
-      as_ipv4 = spec_is_ipv4 (ip_of c.network);
-      offsets = (A.had c.whole).offsets;
-    } };
+    ghost had = { λ c. handed c.part (A.had c.whole) };
 
     #[inline(always)]
     fn network(&self) -> IpNetwork {
-        self.network
+        match self.part {
+            Some(part) => part,
+            None => self.whole.network(),
+        }
+    }
+
+    #[inline(always)]
+    fn block(&self) -> NetworkBlock {
+        match self.part {
+            Some(part) => block_of(part),
+            None => self.whole.block(),
+        }
     }
 
     #[inline(always)]
@@ -160,12 +182,12 @@ fn part_of<A: Answer>(kinds: Kinds, range: Option<IpNetwork>, whole: A) -> Optio
     ensures had { IfSome result (λ part. ⟦<Clipped<A> as Answer>⟧.had part
         ≡ clipped range (A.had whole)) }
 {
-    let network = whole.network();
-    if !is_wanted(kinds, is_ipv4(network)) {
+    let at = whole.block();
+    if !is_wanted(kinds, at.is_ipv4) {
         return None;
     }
-    let network = clip(range, network);
-    Some(Clipped { whole, network })
+    let part = clip(range, &whole, at.block);
+    Some(Clipped { whole, part })
 }
 
 /// A walk of which only networks of some kinds are wanted, and of one that has a range no more than the range. Whether a network

@@ -2,7 +2,7 @@
 ghost use Rattle.std.specs.Prelude.{◌≡◌, ◌++◌, ℕ, List, [], Some, true, IfOk, IfErr, IfSome, OnOk};
 ghost use Rattle.std.specs.Io.KnownBytes.{Appends};
 ghost use Rattle.mmdb_format.specs.Error.{MemoryApart};
-ghost use Rattle.mmdb_query.specs.Ends.{WritesNone, EndsBy};
+ghost use Rattle.mmdb_query.specs.Ends.{WritesNone, leaves_none, EndsBy};
 ghost use Rattle.mmdb_query.specs.Kept.{RowsFit};
 ghost use Rattle.mmdb_query.specs.Rows.{IsRow, IsBegun, puts_row, nothing};
 ghost use Rattle.mmdb_query.specs.Taking.{asks, IsDone, Takes};
@@ -261,6 +261,8 @@ impl<'a, T: Template> Sink for Rows<'a, T> {
 
     ghost is_unread = { T.is_unread };
 
+    ghost leaves = { leaves_none };
+
     ghost fits = { λ s rows. RowsFit T.is_tail T.fits s rows.maker };
 
     #[inline(always)]
@@ -315,12 +317,12 @@ pub fn export_rows<W: Walk, T: Template, C: Conditions, O: Write, F: Faults>(
 ) -> Result<u64, QueryError>
     requires { RowsFit T.is_tail T.fits (W.sections walk.old) rows.old.maker }
     ensures rows { IfOk result (λ unread. Takes (W.comes walk.old)
-        (asks C.says C.is_unread (puts_row T.front T.is_tail) T.is_unread conditions.now
-        rows.old.maker.template.now (W.sections walk.old)) nothing nothing
+        (asks C.says C.is_unread (puts_row T.front T.is_tail) T.is_unread leaves_none
+        conditions.now rows.old.maker.template.now (W.sections walk.old)) nothing nothing
         (O.contents out.old) (O.contents out.new) unread) }
     ensures failed { IfErr result (EndsBy W.comes
-        (asks C.says C.is_unread (puts_row T.front T.is_tail) T.is_unread conditions.now
-        rows.old.maker.template.now (W.sections walk.old)) walk.old nothing
+        (asks C.says C.is_unread (puts_row T.front T.is_tail) T.is_unread leaves_none
+        conditions.now rows.old.maker.template.now (W.sections walk.old)) walk.old nothing
         (O.contents out.old) (O.contents out.new)) }
 {
     put_each(alloc, walk, conditions, rows, out, faults)

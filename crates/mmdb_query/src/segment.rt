@@ -11,7 +11,7 @@ ghost use Rattle.mmdb_query.specs.Had.{network_bits};
 ghost use Rattle.mmdb_query.specs.Reading.{reads_in, value_found, outline_found, IsReadAs};
 ghost use Rattle.mmdb_query.specs.Abreast.{IsOfIpv4, IsLonger};
 
-use crate::answer::Answer;
+use crate::answer::{Answer, NetworkBlock, block_of};
 use crate::numbered::network_of;
 use crate::values::{outline_along, value_along};
 use mmdb_blocks::Block;
@@ -160,6 +160,11 @@ impl<'a, S: AsSlice<u8> + Drop> Answer for Segment<'a, S> {
     #[inline(always)]
     fn network(&self) -> IpNetwork {
         self.network
+    }
+
+    #[inline(always)]
+    fn block(&self) -> NetworkBlock {
+        block_of(self.network)
     }
 
     #[inline(always)]

@@ -1,9 +1,9 @@
 //! What takes chosen networks.
-ghost use Rattle.std.specs.Prelude.{◌≡◌, ℕ, List, [], Option, IfOk, IfErr};
-ghost use Rattle.std.specs.Io.KnownBytes.{Appends};
+ghost use Rattle.std.specs.Prelude.{◌≡◌, ℕ, List, Option, IfOk, IfErr};
 ghost use Rattle.mmdb_query.specs.Had.{Had};
-ghost use Rattle.mmdb_query.specs.Ends.{IsOfOutput, WritesNone};
+ghost use Rattle.mmdb_query.specs.Ends.{Leaves};
 ghost use Rattle.mmdb_query.specs.Taking.{IsDone, IsDoneOrNot};
+ghost use Rattle.mmdb_query.specs.declared.error.QueryError.{QueryError as SpecError};
 
 use crate::answer::Answer;
 use crate::error::QueryError;
@@ -29,6 +29,10 @@ pub trait Sink {
     /// What it needs of the records at these offsets can't be read.
     ghost is_unread: { Form → List (List ℕ) → List (Option ℕ) → Type 0 };
 
+    /// What may be written of a network that it does not take, by what was taken before, and why. Where the output can't be written
+    /// nothing is said.
+    ghost leaves: { Form → List (List ℕ) → Had → Took → List ℕ → SpecError → Type 0 };
+
     /// All that it keeps by numbers of records is of records of these data sections.
     ghost fits: { List (List ℕ) → Self → Type 0 };
 
@@ -39,12 +43,14 @@ pub trait Sink {
         ensures done { IfOk result (λ is_done. IsDoneOrNot
             (puts (form self.old) (A.sections answer.now) (A.had answer.now))
             is_done (took self.old) (took self.new) (O.contents out.old) (O.contents out.new)) }
-        ensures failed { IfErr result (WritesNone (O.contents out.old) (O.contents out.new)) }
+        ensures failed { IfErr result (Leaves
+            (leaves (form self.old) (A.sections answer.now) (A.had answer.now) (took self.old))
+            (O.contents out.old) (O.contents out.new)) }
         ensures fits { fits (A.sections answer.now) self.new }
         ensures form { form self.new ≡ form self.old };
 
     /// Takes a network, or answers why what it needs can't be read, unless out of memory. An `Err` is of the output, or of memory,
-    /// and then nothing was written.
+    /// or the network does not come after all others: then what was written is what the sink leaves.
     fn put<A: Answer, O: Write>(
         &mut self,
         answer: &A,
@@ -55,7 +61,9 @@ pub trait Sink {
             (puts (form self.old) (A.sections answer.now) (A.had answer.now))
             (is_unread (form self.old) (A.sections answer.now) (A.had answer.now).offsets)
             unread (took self.old) (took self.new) (O.contents out.old) (O.contents out.new)) }
-        ensures failed { IfErr result (WritesNone (O.contents out.old) (O.contents out.new)) }
+        ensures failed { IfErr result (Leaves
+            (leaves (form self.old) (A.sections answer.now) (A.had answer.now) (took self.old))
+            (O.contents out.old) (O.contents out.new)) }
         ensures fits { fits (A.sections answer.now) self.new }
         ensures form { form self.new ≡ form self.old };
 

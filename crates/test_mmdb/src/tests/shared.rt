@@ -1,7 +1,7 @@
 //! Two databases side by side, over trees that are made: the stretches beside the networks of each database.
 use super::record_texts::Numbers;
 use mmdb_blocks::Block;
-use mmdb_compare::{Comparison, ComparisonPart};
+use mmdb_compare::{AskedDatabase, Together, TogetherPart};
 use mmdb_reader::{IpNetwork, Reader, WithinOptions};
 use mmdb_vectors::builder::{Field, changed_file, nodes_24};
 use std::alloc::{AllocError, Global};
@@ -202,16 +202,25 @@ fn assert_of_networks<'a>(
     let old = networks_of(rt, alloc, databases.0, range);
     let new = networks_of(rt, alloc, databases.1, range);
     let (mut addresses, mut next) = (0u128, Some(0u128));
-    let compared = Comparison::new(alloc, databases.0, databases.1, range);
-    let mut comparison = match compared {
-        Ok(comparison) => comparison,
+    let asked = [
+        AskedDatabase {
+            reader: databases.0,
+            range,
+        },
+        AskedDatabase {
+            reader: databases.1,
+            range,
+        },
+    ];
+    let mut together = match Together::new(alloc, &asked) {
+        Ok(together) => together,
         Err((_, error)) => {
             drop(error);
             return;
         }
     };
     for _ in 0..2000 {
-        let Some(ComparisonPart::Stretch(stretch)) = comparison.next_part() else {
+        let Some(TogetherPart::Stretch(stretch)) = together.next_part() else {
             break;
         };
         let block = stretch.block;
@@ -223,10 +232,7 @@ fn assert_of_networks<'a>(
             "{seed} {range}: {block:?} is not behind the one before it"
         );
         let wanted = (offset_in(&old, block, last), offset_in(&new, block, last));
-        let given = (
-            comparison.offset_in_old(stretch),
-            comparison.offset_in_new(stretch),
-        );
+        let given = (together.offset(0), together.offset(1));
         assert!(rt;
             wanted == given,
             "{seed} {range} {block:?}: {given:?}, not {wanted:?}"
@@ -241,7 +247,7 @@ fn assert_of_networks<'a>(
         addresses = addresses.wrapping_add(last - block.first).wrapping_add(1);
         next = last.checked_add(1);
     }
-    drop(comparison);
+    drop(together);
     let wanted = joint_count(&old, &new);
     assert!(rt;
         addresses == wanted,

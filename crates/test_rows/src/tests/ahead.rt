@@ -1,11 +1,17 @@
 //! Rows whose addresses are looked up ahead.
-use super::cells::{CSV, enriched, file};
+use super::cells::{CSV, enriched, enriched_from, file, whole_cells};
 use super::streams::{Chopped, assert_holds};
+use mmdb_addresses::Reading;
+use mmdb_cmd_enrich::{Databases, OneDatabase};
 use mmdb_filter::Rows;
 use mmdb_reader::Reader;
+use mmdb_vectors::builder::{base_with_node, file_of_many_nodes};
 use std::alloc::Global;
 use std::cell::Cell;
 use std::io::{self, BufReader, Read, Write};
+use std::process::Abort;
+
+const TABS: Rows = Rows::Lines { delimiter: b'\t' };
 
 /// A row, and what is written behind it where 128.0.0.0/1 has a text.
 type Row = (&'static [u8], &'static [u8]);
@@ -37,6 +43,28 @@ const ROWS: &[Row] = &[
     (b"205.0.0.1", b",\"a\"\"b,c\""),
 ];
 
+/// Rows, and what is written behind them where each address has a text whose eighteenth bit is 1.
+#[rattlefmt::skip]
+const FAR_LINES: &[Row] = &[
+    (b"1.2.3.4", b"\t"),
+    (b"200.0.64.1", b"\tx"),
+    (b"200.0.64.1\ty", b"\tx"),
+    (b"no address", b"\t"),
+    (b"0.0.127.255", b"\tx"),
+    (b"::ffff:255.255.192.0", b"\tx"),
+    (b"255.255.128.0", b"\t"),
+    (b"2001:db8::1", b"\t"),
+    (b"", b""),
+    (b"255.255.192.0", b"\tx"),
+    (b"0.0.0.0", b"\t"),
+];
+
+/// Which of some databases are asked, of which the third has no record: from one to before another.
+const ASKED: &[(usize, usize)] = &[(0, 1), (0, 2), (1, 3), (2, 4), (0, 4)];
+
+/// A node that leads nowhere.
+const EMPTY_NODE: &[u8] = b"\0\0\x01\0\0\x01";
+
 /// Bytes a read, and those of the buffer.
 const STEPS: &[(usize, usize)] = &[
     (1_000_000, 1_000_000),
@@ -61,10 +89,10 @@ fn repeated(alloc: Global, rows: &[Row], end: &'static [u8], is_written: bool) -
     all
 }
 
-// Whether this is written of an input that is read in these steps.
+// Whether this is written of an input that is read in these steps, from one database or from several.
 fn is_written(
     alloc: Global,
-    reader: &Reader<&[u8]>,
+    readers: &[Reader<&[u8]>],
     rows: Rows,
     steps: (usize, usize),
     input: &[u8],
@@ -76,18 +104,28 @@ fn is_written(
         return false;
     };
     let mut out: Vec<u8> = Vec::new(alloc);
-    let is_done = enriched(alloc, reader, rows, 0, &mut input, &mut out);
+    let what = whole_cells(alloc, rows, Reading::Exact, 0);
+    let is_done = match readers {
+        [reader] => enriched_from(alloc, OneDatabase { reader }, what, &mut input, &mut out),
+        _ => {
+            let from = Databases {
+                readers,
+                names: &[],
+            };
+            enriched_from(alloc, from, what, &mut input, &mut out)
+        }
+    };
     is_done && out.as_slice() == want
 }
 
 // Whether rows are written so with each end and in all steps.
-fn are_written(alloc: Global, reader: &Reader<&[u8]>, rows: Rows, table: &[Row]) -> bool {
+fn are_written(alloc: Global, readers: &[Reader<&[u8]>], rows: Rows, table: &[Row]) -> bool {
     for end in [b"\n".as_slice(), b"\r\n"] {
         let input = repeated(alloc, table, end, false);
         let want = repeated(alloc, table, end, true);
         for steps in STEPS {
             let (input, want) = (input.as_slice(), want.as_slice());
-            if !is_written(alloc, reader, rows, *steps, input, want) {
+            if !is_written(alloc, readers, rows, *steps, input, want) {
                 return false;
             }
         }
@@ -95,16 +133,38 @@ fn are_written(alloc: Global, reader: &Reader<&[u8]>, rows: Rows, table: &[Row])
     true
 }
 
+// A reader of these bytes.
+fn reader_of<'a>(rt: &impl Abort, alloc: Global, bytes: &'a Vec<u8>) -> Reader<&'a [u8]> {
+    Reader::from_source(alloc, bytes.as_slice()).expect(rt, "a reader")
+}
+
+#[test]
+fn rows_at_hand(rt: HostRuntime) {
+    let bytes = file(rt.alloc());
+    let readers = [reader_of(&rt, rt.alloc(), &bytes)];
+    assert_holds(&rt, are_written(rt.alloc(), &readers, TABS, LINES), "lines");
+    assert_holds(&rt, are_written(rt.alloc(), &readers, CSV, ROWS), "CSV");
+}
+
 #[test]
 fn rows_looked_up_ahead(rt: HostRuntime) {
-    let bytes = file(rt.alloc());
-    let reader = Reader::from_source(rt.alloc(), bytes.as_slice()).expect(&rt, "a reader");
-    assert_holds(
-        &rt,
-        are_written(rt.alloc(), &reader, Rows::Lines { delimiter: b'\t' }, LINES),
-        "lines",
-    );
-    assert_holds(&rt, are_written(rt.alloc(), &reader, CSV, ROWS), "CSV");
+    let far = file_of_many_nodes(rt.alloc()).expect(&rt, "a file");
+    let empty = base_with_node(rt.alloc(), EMPTY_NODE).expect(&rt, "a file");
+    let readers = [
+        reader_of(&rt, rt.alloc(), &far),
+        reader_of(&rt, rt.alloc(), &far),
+        reader_of(&rt, rt.alloc(), &empty),
+        reader_of(&rt, rt.alloc(), &far),
+    ];
+    assert_holds(&rt, readers[0].outgrows_caches(), "a large tree");
+    for (from, to) in ASKED {
+        let asked = &readers[*from..*to];
+        assert_holds(
+            &rt,
+            are_written(rt.alloc(), asked, TABS, FAR_LINES),
+            "lines",
+        );
+    }
 }
 
 /// An input that gives one line a read, and notes one before which not all lines were written, or that is behind the

@@ -1,7 +1,7 @@
 //! Columns, addresses in them, and cells of CSV.
 use super::streams::{Seen, assert_at};
 use mmdb_addresses::Reading;
-use mmdb_cmd_enrich::{Enrichment, RowMemory};
+use mmdb_cmd_enrich::{Ask, Enrichment, Notes, OneDatabase, RowCells};
 use mmdb_filter::{Counts, Live, Rows, filter_rows, put_csv_cell};
 use mmdb_reader::{PathElement, Reader};
 use mmdb_vectors::builder::{BASE_NODE, changed_file};
@@ -56,30 +56,39 @@ pub(crate) fn enriched<I: Live, W: Write>(
     input: &mut I,
     out: &mut W,
 ) -> bool {
-    enriched_by(alloc, reader, rows, Reading::Exact, column, input, out)
+    let what = whole_cells(alloc, rows, Reading::Exact, column);
+    enriched_from(alloc, OneDatabase { reader }, what, input, out)
 }
 
-// The same of an address that is read so.
-fn enriched_by<I: Live, W: Write>(
+/// Cells of the whole record of the address that is read so in a column.
+pub(crate) fn whole_cells(
     alloc: Global,
-    reader: &Reader<&[u8]>,
     rows: Rows,
     reading: Reading,
     column: usize,
-    input: &mut I,
-    out: &mut W,
-) -> bool {
-    let Ok(mut memory) = RowMemory::new(alloc) else {
-        return false;
-    };
-    let enrichment = Enrichment {
-        alloc,
-        reader,
+) -> RowCells<'static> {
+    RowCells {
         rows,
         reading,
         column,
         breaks: None,
+        network: false,
         paths: whole_record(alloc),
+    }
+}
+
+/// The filter with such cells from databases; whether it came to the end.
+pub(crate) fn enriched_from<D: Ask, I: Live, W: Write>(
+    alloc: Global,
+    from: D,
+    what: RowCells<'_>,
+    input: &mut I,
+    out: &mut W,
+) -> bool {
+    let rows = what.rows;
+    let enrichment = Enrichment { alloc, from, what };
+    let Ok(mut memory) = enrichment.memory(Notes::new(alloc)) else {
+        return false;
     };
     filter_rows(
         alloc,
@@ -196,7 +205,8 @@ fn is_front(alloc: Global, reader: &Reader<&[u8]>, front: &Front) -> bool {
     let input = section_of(alloc, &row);
     let want = section_of(alloc, &[row[0], row[1], row[2], (added, 1)]);
     let (mut left, mut out) = (input.as_slice(), Vec::new(alloc));
-    let is_done = enriched_by(alloc, reader, *rows, *reading, 0, &mut left, &mut out);
+    let what = whole_cells(alloc, *rows, *reading, 0);
+    let is_done = enriched_from(alloc, OneDatabase { reader }, what, &mut left, &mut out);
     is_done && out.as_slice() == want.as_slice()
 }
 

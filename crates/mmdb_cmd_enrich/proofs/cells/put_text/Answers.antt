@@ -1,4 +1,4 @@
-use Rattle.std.proofs.Common.{◌≡◌, ◌++◌, ℕ, true, OnOk, arith, subst, sym}
+use Rattle.std.proofs.Common.{◌≡◌, true, OnOk, arith, subst, sym}
 use Rattle.std.proofs.lemmas.Result.{on_ok_weaker}
 use Rattle.mmdb_format.specs.Contents.{text as text_content}
 use Rattle.mmdb_format.specs.Unfolding.{scalar}

@@ -2,10 +2,8 @@ use Rattle.std.proofs.Common.{rules, ◌≡◌, ◌+◌, ◌∷◌, ◌++◌, []
 use Rattle.std.proofs.lemmas.List.{drop_more, drop_all}
 use Rattle.std.proofs.lemmas.Result.{err_from_is_err_and}
 use Rattle.json.specs.Token.{key}
-use Rattle.mmdb_cmd_enrich.specs.KeptReads.{paths_in}
-use Rattle.mmdb_cmd_enrich.proofs.KeptReadLaws.{path_at}
 use Rattle.mmdb_cmd_enrich.proofs.MemberLaws.{FieldsWay, one_field, fields_done, rejected_in, declined}
-use Rattle.mmdb_cmd_enrich.specs.Fields.{AreValue, HasUnreadField}
+use Rattle.mmdb_cmd_enrich.specs.Fields.{AreValue, HasUnreadField, reads_of_kind}
 use Rattle.mmdb_cmd_enrich.proofs.members.put_fields.Goals as goal
 
 pub loop-at-preserved : goal.loop-at-preserved
@@ -14,25 +12,19 @@ loop-at-preserved g c = record {
       let fields = c.args.fields.now in
       let at = c.loop-at.at in
       let field = c.index-fields-at.result in
-      let reads = g.R.ReadFields.reads c.args.found.now 0 in
+      let reads = reads_of_kind c.args.kind (g.A.ReadAlong.reads c.args.found.now) (g.A.FoundRecords.each c.args.found.now) in
       let here : drop at fields ≡ field ∷ drop (at + 1) fields = drop_more fields at field (omega arith) ∙ ap (λ y. y ∷ drop (at + 1) fields) (sym c.index-fields-at.is) in
       let named : c.token.new.self.tokens ≡ c.loop-at.out.tokens ++ key field.name.now ∷ [] = search rules in
-      let there = path_at (λ field. field.path.items) fields at field c.as_slice.result.now (omega arith) c.index-fields-at.is c.as_slice.ensures.value in
-      let (value, is, put) = c.in_ok-put_value.ensures.value (paths_in fields) there c.loop-at.invariant.kept in
+      let (value, is, put) = c.in_ok-put_value.ensures.value in
       let way = subst (λ l. FieldsWay reads fields l c.args.out.now.tokens c.loop-at.out.tokens) here c.loop-at.invariant.way in
       one_field reads fields (drop (at + 1) fields) field c.args.out.now.tokens c.loop-at.out.tokens c.token.new.self.tokens c.put_value.new.out.tokens value way named (subst (λ p. AreValue (reads p) value) c.as_slice.ensures.value is) put;
-  kept =
-      let fields = c.args.fields.now in
-      let at = c.loop-at.at in
-      let there = path_at (λ field. field.path.items) fields at c.index-fields-at.result c.as_slice.result.now (omega arith) c.index-fields-at.is c.as_slice.ensures.value in
-      c.put_value.ensures.kept (paths_in fields) there c.loop-at.invariant.kept;
   before = search rules;
 }
 
 pub returns-clause-fields : goal.returns-clause-fields
 returns-clause-fields g c =
     let fields = c.args.fields.now in
-    let reads = g.R.ReadFields.reads c.args.found.now 0 in
+    let reads = reads_of_kind c.args.kind (g.A.ReadAlong.reads c.args.found.now) (g.A.FoundRecords.each c.args.found.now) in
     let none : drop c.loop-at.at fields ≡ [] = drop_all c.loop-at.at fields (omega arith) in
     fields_done reads fields c.args.out.now.tokens c.loop-at.out.tokens (subst (λ l. FieldsWay reads fields l c.args.out.now.tokens c.loop-at.out.tokens) none c.loop-at.invariant.way)
 
@@ -41,9 +33,7 @@ returns-in_err-put_value-clause-rejected g c =
     let fields = c.args.fields.now in
     let at = c.loop-at.at in
     let field = c.index-fields-at.result in
-    let reads = g.R.ReadFields.reads c.args.found.now 0 in
+    let reads = reads_of_kind c.args.kind (g.A.ReadAlong.reads c.args.found.now) (g.A.FoundRecords.each c.args.found.now) in
     let here : drop at fields ≡ field ∷ drop (at + 1) fields = drop_more fields at field (omega arith) ∙ ap (λ y. y ∷ drop (at + 1) fields) (sym c.index-fields-at.is) in
     let p = err_from_is_err_and c.from_residual-in_err-put_value.result c.from_residual-in_err-put_value.ensures.1 in
-    let there = path_at (λ field. field.path.items) fields at field c.as_slice.result.now (omega arith) c.index-fields-at.is c.as_slice.ensures.value in
-    let fails = c.in_err-put_value.ensures.rejected (paths_in fields) there c.loop-at.invariant.kept in
-    rw (p.1, p.2) (declined c.in_err-put_value.field-0.0 (reads c.as_slice.result.now) (HasUnreadField reads fields) (λ none. rejected_in reads fields at field (drop (at + 1) fields) here (subst (λ path. reads path ≡ None) c.as_slice.ensures.value none)) fails)
+    rw (p.1, p.2) (declined c.in_err-put_value.field-0.0 (reads c.as_slice.result.now) (HasUnreadField reads fields) (λ none. rejected_in reads fields at field (drop (at + 1) fields) here (subst (λ path. reads path ≡ None) c.as_slice.ensures.value none)) c.in_err-put_value.ensures.rejected)

@@ -3,6 +3,7 @@ use Rattle.mmdb_reader.specs.File.{Database, data_section}
 use Rattle.mmdb_reader.specs.Enumeration.{database_walked, ListsRange}
 use Rattle.mmdb_query.specs.Walks.{item_listed, comes_alone}
 use Rattle.mmdb_query.specs.Taking.{asks}
+use Rattle.mmdb_query.specs.Ends.{leaves_none}
 use Rattle.mmdb_query.specs.Rows.{nothing}
 use Rattle.mmdb_query.specs.Sets.{puts_addresses, needs_nothing}
 use Rattle.mmdb_query.proofs.AnsweredLaws.{has_only, has_all}
@@ -15,7 +16,7 @@ returns-clause-only g c =
     let database = subst (λ v. database_walked v ≡ c.args.reader.now) (sym c.new.ensures) c.in-Ok.ensures.database in
     let walked = database_walked w in
     has_only
-    (λ (db : Database). asks g.C.Conditions.says g.C.Conditions.is_unread puts_addresses needs_nothing c.args.conditions.now nothing (data_section db ∷ []))
+    (λ (db : Database). asks g.C.Conditions.says g.C.Conditions.is_unread puts_addresses needs_nothing leaves_none c.args.conditions.now nothing (data_section db ∷ []))
     (comes_alone w) c.default.result l.list walked c.args.reader.now c.gather.result database c.default.ensures l.is_listing
     (λ items come. come ∙ ap (map (item_listed walked)) l.comes) c.gather.ensures
 
@@ -26,6 +27,6 @@ returns-clause-all g c =
     let database = subst (λ v. database_walked v ≡ c.args.reader.now) (sym c.new.ensures) c.in-Ok.ensures.database in
     let walked = database_walked w in
     has_all
-    (λ (db : Database). asks g.C.Conditions.says g.C.Conditions.is_unread puts_addresses needs_nothing c.args.conditions.now nothing (data_section db ∷ []))
+    (λ (db : Database). asks g.C.Conditions.says g.C.Conditions.is_unread puts_addresses needs_nothing leaves_none c.args.conditions.now nothing (data_section db ∷ []))
     (comes_alone w) c.default.result l.list walked c.args.reader.now c.gather.result database c.default.ensures l.is_listing
     (λ items come. come ∙ ap (map (item_listed walked)) l.comes) (λ offsets unput. unput) c.gather.ensures

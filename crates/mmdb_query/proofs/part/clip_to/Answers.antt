@@ -25,4 +25,4 @@ returns-else-has_block c = λ had is.
     let whole = c.of_network in
     let lacks : has_range had range ≡ false =
     range_had had range c.args.network whole.result part.result c.has_block.result is whole.ensures.bits part.ensures.bits c.has_block.ensures ∙ c.if-has_block.false in
-    network_shown had range c.args.network is lacks
+    network_shown had range lacks

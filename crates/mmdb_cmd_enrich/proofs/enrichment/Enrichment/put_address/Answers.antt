@@ -1,49 +1,15 @@
-use Rattle.std.proofs.Common.{rules, ◌≡◌, Some, None, sym, subst}
-use Rattle.std.proofs.lemmas.Result.{IfOk-weaker}
-use Rattle.mmdb_reader.specs.Found.{leaf_of, offset_found}
-use Rattle.mmdb_cmd_enrich.specs.Added.{AddsAt}
-use Rattle.mmdb_cmd_enrich.specs.Rows.{paths_of}
-use Rattle.mmdb_cmd_enrich.specs.Wanted.{cells}
-use Rattle.mmdb_cmd_enrich.proofs.AddedLaws.{found_added, absent_added, rejected_added}
+use Rattle.std.proofs.Common.{sym}
+use Rattle.mmdb_cmd_enrich.specs.Layers.{IsKeyFor}
+use Rattle.mmdb_cmd_enrich.proofs.AddedLaws.{held, kept_added}
 use Rattle.mmdb_cmd_enrich.proofs.enrichment.Enrichment.put_address.Goals as goal
 
-pub returns-in_default-clause-added : goal.returns-in_default-clause-added
-returns-in_default-clause-added g c =
-    let db = c.args.self.now.reader.now in
-    let why = c.in_default.ensures in
-    IfOk-weaker c.put_none.result _ _
-    (λ addition e. rejected_added db c.args.self.now.rows c.args.self.now.paths c.args.asked.address c.in_default.field-0 addition c.args.out.now c.put_none.new.out why.no_other why.of_input.0 why.of_database.0 e.0 e.1)
-    c.put_none.ensures
-
-pub returns-in_default-offset-clause-added : goal.returns-in_default-offset-clause-added
-returns-in_default-offset-clause-added g c =
-    let db = c.args.self.now.reader.now in
-    let rows = c.args.self.now.rows in
-    let fields = c.args.self.now.paths in
-    let none : offset_found c.in-Ok.found ≡ None = search rules in
-    IfOk-weaker c.put_none-in_default-offset.result _ _
-    (λ addition e. found_added db rows fields c.args.asked.address (leaf_of c.in-Ok.found) None (offset_found c.in-Ok.found) addition c.args.out.now c.put_none-in_default-offset.new.out c.in-Ok.ensures.answered none (absent_added db rows fields addition c.args.out.now c.put_none-in_default-offset.new.out e.0 e.1))
-    c.put_none-in_default-offset.ensures
-
-pub returns-in-Some-kept-clause-added : goal.returns-in-Some-kept-clause-added
-returns-in-Some-kept-clause-added g c =
-    let db = c.args.self.now.reader.now in
-    let rows = c.args.self.now.rows in
-    let fields = c.args.self.now.paths in
-    let there : offset_found c.in-Ok.found ≡ Some c.in-Some.offset = search rules in
+pub returns-clause-added : goal.returns-clause-added
+returns-clause-added g c =
+    let template = g.W.Template.template c.args.self.now.what in
+    let dbs = g.D.Ask.databases c.args.self.now.from in
+    let address = c.args.asked.address.now in
+    let key = c.in-Some.key in
     let kept = c.in-Some-kept.kept in
-    let adds = c.in-Some-kept.ensures (cells db rows (paths_of fields)) c.requires.kept in
-    IfOk-weaker c.put_kept.result _ _
-    (λ addition e. found_added db rows fields c.args.asked.address (leaf_of c.in-Ok.found) (Some c.in-Some.offset) (offset_found c.in-Ok.found) addition c.args.out.now c.put_kept.new.out c.in-Ok.ensures.answered there
-    (kept.cells.now, subst (AddsAt db rows (paths_of fields) (Some c.in-Some.offset) kept.cells.now) (sym e.0) adds, e.1))
-    c.put_kept.ensures
-
-pub returns-in-None-clause-added : goal.returns-in-None-clause-added
-returns-in-None-clause-added g c =
-    let db = c.args.self.now.reader.now in
-    let rows = c.args.self.now.rows in
-    let fields = c.args.self.now.paths in
-    let there : offset_found c.in-Ok.found ≡ Some c.in-Some.offset = search rules in
-    IfOk-weaker c.put_record.result _ _
-    (λ addition e. found_added db rows fields c.args.asked.address (leaf_of c.in-Ok.found) (Some c.in-Some.offset) (offset_found c.in-Ok.found) addition c.args.out.now c.put_record.new.out c.in-Ok.ensures.answered there e)
-    c.put_record.ensures.added
+    let is = held c.in_ok-key.key key (IsKeyFor dbs address) c.in-Some.is c.in_ok-key.ensures.key in
+    let adds = c.in-Some-kept.ensures (record { template = template; databases = dbs }) c.requires.fits.kept in
+    kept_added template dbs c.args.place address key kept.cells.now kept.outcome c.in_ok-outcome.outcome c.args.out.now.items c.put_at.new.out.items (sym c.if-not-shows_network.ensures) is adds c.in_ok-outcome.ensures

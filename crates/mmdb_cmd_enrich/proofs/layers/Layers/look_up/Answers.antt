@@ -1,5 +1,6 @@
 use Rattle.std.proofs.Common.{rules, ◌≡◌, ◌+◌, [], ◌∷◌, ◌++◌, IfSome, drop, sym, ap, ◌∙◌, subst, arith}
 use Rattle.std.proofs.lemmas.List.{drop_more, drop_all}
+use Rattle.mmdb_cmd_enrich.specs.Ahead.{AreFoundIn}
 use Rattle.mmdb_cmd_enrich.specs.Working.{IsKeyAfter}
 use Rattle.mmdb_cmd_enrich.proofs.LayerLaws.{LayersWay, one_answer, answers_done}
 use Rattle.mmdb_cmd_enrich.proofs.layers.Layers.look_up.Goals as goal
@@ -16,6 +17,8 @@ loop-reader-preserved g c =
     record {
       way = one_answer readers (drop (i + 1) readers) c.reader-item.result c.args.address answers c.push.new.self.items c.in-Ok.answer key c.longer_key-self.result way put c.in-Ok.ensures.answered
           (subst (λ o. IfSome c.longer_key-self.result (IsKeyAfter key c.reader-item.result o)) c.offset_of.ensures c.longer_key-self.ensures);
+      found = let (addresses, known, numbered) = c.loop-reader.invariant.found in
+          (addresses, c.next_leaf-leaf.ensures.left c.reader-item.result (drop (i + 1) readers) addresses (subst (λ left. AreFoundIn left addresses c.loop-reader.left.now) here known), numbered);
       of = c.loop-reader.invariant.of;
     }
 

@@ -1,15 +1,17 @@
-use Rattle.std.proofs.Common.{◌≡◌, ◌<◌, List, length, get_or, ap, arith, ◌∙◌}
-use Rattle.mmdb_compare.specs.Walks.{Standing}
-use Rattle.mmdb_compare.proofs.TogetherLaws.{more_here}
+use Rattle.std.proofs.Common.{sym, ◌∙◌}
+use Rattle.mmdb_compare.proofs.TogetherLaws.{narrowest_shown, here_shown, here_passed}
 use Rattle.mmdb_compare.proofs.walk_list.WalkList.at.Goals as goal
 
-pub loop-walk-preserved : goal.loop-walk-preserved
-loop-walk-preserved g c =
-    let walks = c.args.self.now.walks.items in
-    let place = c.loop-walk.walk-index in
-    let s = c.walk-item.result in
-    let read = c.deref-walk-items.ensures.value in
-    let many : length c.deref-walk-items.result.now ≡ length walks = ap length read in
-    let lt : place < length walks = omega (arith, many, c.loop-walk-test.true) in
-    let is : s ≡ get_or walks place s = c.walk-item.is ∙ ap (λ (xs : List Standing). get_or xs place s) read in
-    more_here walks s place c.args.at c.loop-walk.all c.and-all.result c.at.result c.loop-walk.invariant c.at.ensures lt is c.and-all.ensures.last c.and-all.ensures.known c.and-all.ensures.some
+pub returns-in-Some : goal.returns-in-Some
+returns-in-Some g c =
+    let narrowest = c.in-Some.field-0 in
+    narrowest_shown c.args.self.now.walks.items c.args.at narrowest.block narrowest.are_even c.requires c.in-Some.ensures
+
+pub returns : goal.returns
+returns g c =
+    let l = c.largest.ensures in
+    here_shown c.args.self.now.walks.items c.args.at c.each_at-here.result c.largest.result c.requires c.each_at-here.ensures (sym c.is_shown.ensures ∙ c.if-not-is_shown.false) l.block l.first l.within
+
+pub returns-then-not-is_shown : goal.returns-then-not-is_shown
+returns-then-not-is_shown g c =
+    here_passed c.args.self.now.walks.items c.args.at c.each_at-here.result c.each_at-here.ensures (sym c.is_shown.ensures ∙ c.if-not-is_shown.true)

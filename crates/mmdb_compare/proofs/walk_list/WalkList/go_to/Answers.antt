@@ -9,7 +9,7 @@ returns-then-not-go_to-clause-step g c =
     let place = c.loop-place.place in
     let i = c.loop-place.invariant in
     let lt : place < length walks = omega (arith, as_many before walks place c.args.at i) in
-    met_of before walks c.index_mut-walk.result.now c.go_to.new.self place c.args.at i lt c.index_mut-walk.ensures.value c.if-not-go_to.ensures.step
+    met_of before walks c.index_mut-walk.result.now c.go_to.new.self place c.args.at i.left lt c.index_mut-walk.ensures.value c.if-not-go_to.ensures.step
 
 pub loop-place-preserved : goal.loop-place-preserved
 loop-place-preserved g c =

@@ -1,7 +1,4 @@
-use Rattle.std.proofs.Common.{◌≡◌, ℕ, ◌<◌, map, length, take}
-use Rattle.std.specs.List.{All}
-use Rattle.mmdb_compare.specs.Walks.{IsFrom}
-use Rattle.mmdb_compare.specs.WalkList.{left_from, GoneUpTo}
+use Rattle.mmdb_compare.specs.WalkList.{GoneUpTo}
 use Rattle.mmdb_compare.proofs.walk_list.WalkList.go_to.Given as goal
 
 -- the walks before the place went on, and nothing is left out of any

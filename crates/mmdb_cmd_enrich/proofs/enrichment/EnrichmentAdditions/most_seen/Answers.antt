@@ -1,7 +1,0 @@
-use Rattle.std.proofs.Common.{refl}
-use Rattle.mmdb_filter.specs.Lines.{most_seen}
-use Rattle.mmdb_cmd_enrich.proofs.enrichment.EnrichmentAdditions.most_seen.Goals as goal
-
-pub returns-clause-most : goal.returns-clause-most
-unfolding most_seen
-returns-clause-most g c = refl

@@ -1,0 +1,23 @@
+//! The old and the new one of two databases.
+/// One of the two.
+#[derive(Clone, Copy)]
+pub enum Side {
+    Old,
+    New,
+}
+
+impl Side {
+    /// The place of its database, where the old one is the first.
+    #[inline(always)]
+    pub fn place(self) -> usize {
+        match self {
+            Side::Old => 0,
+            Side::New => 1,
+        }
+    }
+
+    /// The side of the database at a place.
+    pub fn at(place: usize) -> Side {
+        if place == 0 { Side::Old } else { Side::New }
+    }
+}
