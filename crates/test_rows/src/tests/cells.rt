@@ -78,7 +78,7 @@ pub(crate) fn whole_cells(
 }
 
 /// The filter with such cells from databases; whether it came to the end.
-pub(crate) fn enriched_from<D: Ask, I: Live, W: Write>(
+pub(crate) fn enriched_from<D: Ask + Drop, I: Live, W: Write>(
     alloc: Global,
     from: D,
     what: RowCells<'_>,
