@@ -1,1 +1,3 @@
 mod Seeing
+mod Showing
+mod Telling

@@ -1,3 +1,5 @@
 -- What only contracts of private functions and proofs name.
 pub mod Seen
 pub mod Shown
+pub mod Showing
+pub mod Lines

@@ -1,11 +1,18 @@
 //! What differs, written as the fewest networks: neighbours with the same two values are joined.
+ghost use Rattle.std.specs.Prelude.{◌≡◌, true, false, None, IfOk, IfErr, IfSome, OnOk, IsSomeAnd};
+ghost use Rattle.mmdb_blocks.specs.Joining.{settled_of, waiting_of};
+ghost use Rattle.mmdb_blocks.specs.Kinds.{IsNetworkOf};
+ghost use Rattle.mmdb_cmd_diff.specs.Showing.{Showing, IsShownPair, offset_at, offset_in};
+ghost use Rattle.mmdb_cmd_diff.specs.Lines.{WritesNone, is_of_output, kind_of as spec_kind_of, kind_of_run, WritesOf, WritesBlock, WritesBlocks, Both, HasThere, Joins, Tells, AreWaiting, GoesOnAs, GoesOnWith};
+
 use crate::counts::{ABSENT, ChangeCounts, Presence};
 use crate::differences::{FoundInBoth, PairOfNetwork, Pairs, put_difference};
+use crate::shown::ShownPair;
 use mmdb_blocks::{Block, BlockKind, Joiner};
-use mmdb_compare::{ShownPair, TogetherStretch};
+use mmdb_compare::TogetherStretch;
 use mmdb_console::ProgramError;
 use mmdb_layout::{Found, Layout};
-use mmdb_reader::IpNetwork;
+use mmdb_reader::{IpNetwork, MaxMindDbError};
 use std::alloc::{AllocError, Global};
 use std::io::Write;
 
@@ -25,7 +32,10 @@ struct ShownRun<'r> {
 }
 
 impl<'r> ShownRun<'r> {
-    fn answers(&self) -> FoundInBoth<'_, 'r> {
+    fn answers(&self) -> FoundInBoth<'_, 'r>
+        ensures old { offset_at result.old ≡ offset_in self.now.old }
+        ensures new { offset_at result.new ≡ offset_in self.now.new }
+    {
         FoundInBoth {
             old: self.old.as_ref(),
             new: self.new.as_ref(),
@@ -33,7 +43,9 @@ impl<'r> ShownRun<'r> {
     }
 
     // Whether a stretch begins right after it, and is of the same kind of addresses.
-    fn is_before(&self, stretch: TogetherStretch) -> bool {
+    fn is_before(&self, stretch: TogetherStretch) -> bool
+        ensures { result ≡ true → self.now.is_ipv4 ≡ stretch.is_ipv4 }
+    {
         let first = stretch.block.first;
         self.is_ipv4 == stretch.is_ipv4 && first > 0 && first - 1 == self.last
     }
@@ -41,9 +53,8 @@ impl<'r> ShownRun<'r> {
 
 /// The changes of a comparison. Those of a run are written where the next one begins, or by `finish`.
 #[derive(Drop)]
-pub(crate) struct Changes<'a, 'r> {
+pub(crate) struct Changes<'r> {
     alloc: Global,
-    layout: &'a Layout<'a>,
     joiner: Joiner,
     run: Option<ShownRun<'r>>,
     /// What the first address of each block that waits in the joiner has, by how many zero bits that address ends
@@ -56,7 +67,9 @@ pub(crate) struct Changes<'a, 'r> {
 }
 
 /// The kind of addresses of IPv4 or not.
-pub(crate) fn kind_of(is_ipv4: bool) -> BlockKind {
+pub(crate) fn kind_of(is_ipv4: bool) -> BlockKind
+    ensures { result ≡ spec_kind_of is_ipv4 }
+{
     if is_ipv4 {
         BlockKind::Ipv4
     } else {
@@ -65,22 +78,32 @@ pub(crate) fn kind_of(is_ipv4: bool) -> BlockKind {
 }
 
 /// The network of a block.
-pub(crate) fn network_of(block: Block, is_ipv4: bool) -> Result<IpNetwork, ProgramError> {
+pub(crate) fn network_of(block: Block, is_ipv4: bool) -> Result<IpNetwork, ProgramError>
+    ensures { IfOk result (IsNetworkOf (spec_kind_of is_ipv4) block) }
+{
     match kind_of(is_ipv4).network_of(block) {
         Ok(network) => Ok(network),
         Err(_) => Err(ProgramError::OutOfOrder),
     }
 }
 
-impl<'a, 'r> Changes<'a, 'r> {
+// Whether memory was out.
+fn is_memory(error: &ProgramError) -> bool
+    ensures { result ≡ true → is_of_output error.now ≡ false }
+{
+    match error {
+        ProgramError::Memory | ProgramError::Database(MaxMindDbError::Memory) => true,
+        _ => false,
+    }
+}
+
+impl<'r> Changes<'r> {
     /// No changes yet.
-    pub(crate) fn new(
-        alloc: Global,
-        layout: &'a Layout<'a>,
-    ) -> Result<Changes<'a, 'r>, AllocError> {
+    pub(crate) fn new(alloc: Global) -> Result<Changes<'r>, AllocError>
+        ensures { (showing : Showing) (both : Both) → IfOk result (AreWaiting showing both) }
+    {
         Ok(Changes {
             alloc,
-            layout,
             joiner: Joiner::new(alloc)?,
             run: None,
             presences: [ABSENT; ENDINGS],
@@ -96,7 +119,10 @@ impl<'a, 'r> Changes<'a, 'r> {
     }
 
     // Keeps what the first address of a stretch has.
-    fn keep_presence(&mut self, stretch: TogetherStretch, answers: FoundInBoth<'_, '_>) {
+    fn keep_presence(&mut self, stretch: TogetherStretch, answers: FoundInBoth<'_, '_>)
+        ensures run { self.new.run ≡ self.old.run }
+        ensures joiner { self.new.joiner ≡ self.old.joiner }
+    {
         let zeros = stretch.block.first.trailing_zeros() as usize;
         if let Some(presence) = self.presences.get_mut(zeros) {
             *presence = Presence {
@@ -107,7 +133,9 @@ impl<'a, 'r> Changes<'a, 'r> {
     }
 
     // The network of a block of the run.
-    fn network_of(&self, block: Block) -> Result<IpNetwork, ProgramError> {
+    fn network_of(&self, block: Block) -> Result<IpNetwork, ProgramError>
+        ensures { IfOk result (IsNetworkOf (kind_of_run self.now.run) block) }
+    {
         match &self.run {
             Some(run) => network_of(block, run.is_ipv4),
             None => network_of(block, false),
@@ -118,12 +146,19 @@ impl<'a, 'r> Changes<'a, 'r> {
     fn try_network<O: Write>(
         &mut self,
         network: IpNetwork,
+        layout: &Layout<'_>,
         out: &mut O,
-    ) -> Result<(), ProgramError> {
+    ) -> Result<(), ProgramError>
+        ensures written { OnOk result (WritesOf layout.now network self.old.run
+            (O.contents out.old) (O.contents out.new)) }
+        ensures failed { IfErr result (WritesNone (O.contents out.old) (O.contents out.new)) }
+        ensures run { self.new.run ≡ self.old.run }
+        ensures joiner { self.new.joiner ≡ self.old.joiner }
+    {
         match &self.run {
             Some(run) => put_difference(
                 self.alloc,
-                self.layout,
+                layout,
                 network,
                 PairOfNetwork {
                     answers: run.answers(),
@@ -142,14 +177,21 @@ impl<'a, 'r> Changes<'a, 'r> {
     fn put_network<O: Write>(
         &mut self,
         network: IpNetwork,
-        pairs: &mut Pairs<'_>,
+        pairs: &mut Pairs<'_, '_>,
         out: &mut O,
-    ) -> Result<(), ProgramError> {
-        match self.try_network(network, out) {
-            Err(error) if error.is_memory() => {
+    ) -> Result<(), ProgramError>
+        ensures written { OnOk result (WritesOf pairs.entry.now.layout.now network self.old.run
+            (O.contents out.old) (O.contents out.new)) }
+        ensures run { self.new.run ≡ self.old.run }
+        ensures joiner { self.new.joiner ≡ self.old.joiner }
+        ensures shown { pairs.exit.now.shown ≡ pairs.entry.now.shown }
+        ensures layout { pairs.exit.now.layout ≡ pairs.entry.now.layout }
+    {
+        match self.try_network(network, pairs.layout, out) {
+            Err(error) if is_memory(&error) => {
                 drop(error);
                 pairs.let_go();
-                self.try_network(network, out)
+                self.try_network(network, pairs.layout, out)
             }
             done => done,
         }
@@ -159,9 +201,16 @@ impl<'a, 'r> Changes<'a, 'r> {
     fn put_block<O: Write>(
         &mut self,
         block: Block,
-        pairs: &mut Pairs<'_>,
+        pairs: &mut Pairs<'_, '_>,
         out: &mut O,
-    ) -> Result<(), ProgramError> {
+    ) -> Result<(), ProgramError>
+        ensures written { OnOk result (WritesBlock pairs.entry.now.layout.now self.old.run block
+            (O.contents out.old) (O.contents out.new)) }
+        ensures run { self.new.run ≡ self.old.run }
+        ensures joiner { self.new.joiner ≡ self.old.joiner }
+        ensures shown { pairs.exit.now.shown ≡ pairs.entry.now.shown }
+        ensures layout { pairs.exit.now.layout ≡ pairs.entry.now.layout }
+    {
         let network = self.network_of(block)?;
         let presence = self.presence_at(block.first);
         self.counts.count(network, presence);
@@ -171,14 +220,19 @@ impl<'a, 'r> Changes<'a, 'r> {
     // Writes the blocks that nothing can join any more.
     fn put_settled<O: Write>(
         &mut self,
-        pairs: &mut Pairs<'_>,
+        pairs: &mut Pairs<'_, '_>,
         out: &mut O,
-    ) -> Result<(), ProgramError> {
+    ) -> Result<(), ProgramError>
+        ensures written { OnOk result (WritesBlocks pairs.entry.now.layout.now self.old.run
+            (settled_of self.old.joiner) (O.contents out.old) (O.contents out.new)) }
+        ensures run { self.new.run ≡ self.old.run }
+        ensures joiner { self.new.joiner ≡ self.old.joiner }
+        ensures shown { pairs.exit.now.shown ≡ pairs.entry.now.shown }
+        ensures layout { pairs.exit.now.layout ≡ pairs.entry.now.layout }
+    {
         for index in 0..self.joiner.settled().len() {
-            if let Some(block) = self.joiner.settled().get(index) {
-                let block = *block;
-                self.put_block(block, pairs, out)?;
-            }
+            let block = self.joiner.settled()[index];
+            self.put_block(block, pairs, out)?;
         }
         Ok(())
     }
@@ -186,9 +240,21 @@ impl<'a, 'r> Changes<'a, 'r> {
     /// Writes what waits.
     pub(crate) fn finish<O: Write>(
         &mut self,
-        pairs: &mut Pairs<'_>,
+        pairs: &mut Pairs<'_, '_>,
         out: &mut O,
-    ) -> Result<(), ProgramError> {
+    ) -> Result<(), ProgramError>
+        ensures written { OnOk result (WritesBlocks pairs.entry.now.layout.now self.old.run
+            (waiting_of self.old.joiner) (O.contents out.old) (O.contents out.new)) }
+        // Whatever both databases have: where what waits says so, what is written says so.
+        ensures told { (both : Both) → AreWaiting pairs.entry.now.shown both self.old → OnOk result
+            (Tells pairs.entry.now.layout.now pairs.entry.now.shown both
+            (O.contents out.old) (O.contents out.new)) }
+        ensures waiting { (both : Both) → AreWaiting pairs.entry.now.shown both self.old
+            → OnOk result (AreWaiting pairs.entry.now.shown both self.new) }
+        ensures run { self.new.run ≡ None }
+        ensures shown { pairs.exit.now.shown ≡ pairs.entry.now.shown }
+        ensures layout { pairs.exit.now.layout ≡ pairs.entry.now.layout }
+    {
         if self.run.is_none() {
             return Ok(());
         }
@@ -199,7 +265,10 @@ impl<'a, 'r> Changes<'a, 'r> {
     }
 
     // Whether the run goes on with what was found in a stretch at the same places of both files.
-    fn has_same_records(&self, stretch: TogetherStretch, answers: FoundInBoth<'_, 'r>) -> bool {
+    fn has_same_records(&self, stretch: TogetherStretch, answers: FoundInBoth<'_, 'r>) -> bool
+        ensures { result ≡ true → IsSomeAnd self.now.run (GoesOnAs stretch.is_ipv4
+            (offset_at answers.entry.old) (offset_at answers.entry.new)) }
+    {
         match &self.run {
             Some(run) => run.is_before(stretch) && run.answers().are_same_records(answers),
             None => false,
@@ -207,25 +276,50 @@ impl<'a, 'r> Changes<'a, 'r> {
     }
 
     // Whether the run goes on with values that are shown so.
-    fn has_same_values(&self, stretch: TogetherStretch, shown: &ShownPair) -> bool {
+    fn has_same_values(&self, stretch: TogetherStretch, shown: &ShownPair) -> bool
+        ensures { result ≡ true → IsSomeAnd self.now.run (GoesOnWith stretch.is_ipv4 shown.now) }
+    {
         match &self.run {
-            Some(run) => run.is_before(stretch) && run.shown == *shown,
+            Some(run) => {
+                run.is_before(stretch) && run.shown.old == shown.old && run.shown.new == shown.new
+            }
             None => false,
         }
     }
 
-    // Goes on with other values where they are not the run's own: what waits is written, and another run begins.
-    fn change_to<O: Write>(
+    // Writes what waits, unless it is shown so too.
+    fn finish_others<O: Write>(
         &mut self,
         stretch: TogetherStretch,
-        answers: FoundInBoth<'_, 'r>,
-        pairs: &mut Pairs<'_>,
+        shown: &ShownPair,
+        pairs: &mut Pairs<'_, '_>,
         out: &mut O,
-    ) -> Result<(), ProgramError> {
-        let shown = pairs.shown_by(self.alloc, self.layout, answers)?;
-        if !self.has_same_values(stretch, &shown) {
-            self.finish(pairs, out)?;
+    ) -> Result<(), ProgramError>
+        ensures told { (both : Both) → AreWaiting pairs.entry.now.shown both self.old → OnOk result
+            (Tells pairs.entry.now.layout.now pairs.entry.now.shown both
+            (O.contents out.old) (O.contents out.new)) }
+        ensures waiting { (both : Both) → AreWaiting pairs.entry.now.shown both self.old
+            → OnOk result (AreWaiting pairs.entry.now.shown both self.new) }
+        ensures ready { OnOk result
+            (IfSome self.new.run (GoesOnWith stretch.is_ipv4 shown.now)) }
+        ensures shown { pairs.exit.now.shown ≡ pairs.entry.now.shown }
+        ensures layout { pairs.exit.now.layout ≡ pairs.entry.now.layout }
+    {
+        if self.has_same_values(stretch, shown) {
+            return Ok(());
         }
+        self.finish(pairs, out)
+    }
+
+    // Begins a run with what is shown in a stretch, or goes on with one that shows the same.
+    fn show(&mut self, stretch: TogetherStretch, answers: FoundInBoth<'_, 'r>, shown: ShownPair)
+        requires { IfSome self.old.run (GoesOnWith stretch.is_ipv4 shown) }
+        ensures waiting { (showing : Showing) (both : Both) → AreWaiting showing both self.old
+            → IsShownPair showing (offset_at answers.entry.old) (offset_at answers.entry.new)
+            shown → AreWaiting showing both self.new }
+        ensures run { IsSomeAnd self.new.run (GoesOnAs stretch.is_ipv4
+            (offset_at answers.entry.old) (offset_at answers.entry.new)) }
+    {
         self.run = Some(ShownRun {
             old: answers.old.copied(),
             new: answers.new.copied(),
@@ -233,7 +327,75 @@ impl<'a, 'r> Changes<'a, 'r> {
             is_ipv4: stretch.is_ipv4,
             last: stretch.block.first,
         });
+    }
+
+    // Goes on with other values: where they are not shown as the run's own, what waits is written, and another run begins.
+    fn change_to<O: Write>(
+        &mut self,
+        stretch: TogetherStretch,
+        answers: FoundInBoth<'_, 'r>,
+        pairs: &mut Pairs<'_, '_>,
+        out: &mut O,
+    ) -> Result<(), ProgramError>
+        ensures told { (both : Both) → AreWaiting pairs.entry.now.shown both self.old → OnOk result
+            (Tells pairs.entry.now.layout.now pairs.entry.now.shown both
+            (O.contents out.old) (O.contents out.new)) }
+        ensures waiting { (both : Both) → AreWaiting pairs.entry.now.shown both self.old
+            → OnOk result (AreWaiting pairs.entry.now.shown both self.new) }
+        ensures run { OnOk result (IsSomeAnd self.new.run (GoesOnAs stretch.is_ipv4
+            (offset_at answers.entry.old) (offset_at answers.entry.new))) }
+        ensures shown { pairs.exit.now.shown ≡ pairs.entry.now.shown }
+        ensures layout { pairs.exit.now.layout ≡ pairs.entry.now.layout }
+    {
+        let shown = pairs.shown_by(self.alloc, answers)?;
+        self.finish_others(stretch, &shown, pairs, out)?;
+        self.show(stretch, answers, shown);
         Ok(())
+    }
+
+    // Goes on with what was found in a stretch.
+    fn turn_to<O: Write>(
+        &mut self,
+        stretch: TogetherStretch,
+        answers: FoundInBoth<'_, 'r>,
+        pairs: &mut Pairs<'_, '_>,
+        out: &mut O,
+    ) -> Result<(), ProgramError>
+        ensures told { (both : Both) → AreWaiting pairs.entry.now.shown both self.old → OnOk result
+            (Tells pairs.entry.now.layout.now pairs.entry.now.shown both
+            (O.contents out.old) (O.contents out.new)) }
+        ensures waiting { (both : Both) → AreWaiting pairs.entry.now.shown both self.old
+            → OnOk result (AreWaiting pairs.entry.now.shown both self.new) }
+        ensures run { OnOk result (IsSomeAnd self.new.run (GoesOnAs stretch.is_ipv4
+            (offset_at answers.entry.old) (offset_at answers.entry.new))) }
+        ensures shown { pairs.exit.now.shown ≡ pairs.entry.now.shown }
+        ensures layout { pairs.exit.now.layout ≡ pairs.entry.now.layout }
+    {
+        if self.has_same_records(stretch, answers) {
+            return Ok(());
+        }
+        self.change_to(stretch, answers, pairs, out)
+    }
+
+    // Joins a block with what waits.
+    fn join(&mut self, block: Block) -> Result<(), ProgramError>
+        ensures joined { OnOk result (Joins self.old.joiner block self.new.joiner) }
+        ensures run { self.new.run ≡ self.old.run }
+    {
+        match self.joiner.push(block) {
+            Ok(()) => Ok(()),
+            Err(_) => Err(ProgramError::OutOfOrder),
+        }
+    }
+
+    // Notes the last address of the run.
+    fn note_last(&mut self, last: u128)
+        ensures { (showing : Showing) (both : Both) → AreWaiting showing both self.old
+            → AreWaiting showing both self.new }
+    {
+        if let Some(run) = &mut self.run {
+            run.last = last;
+        }
     }
 
     // Adds the block of a stretch to the run.
@@ -241,18 +403,29 @@ impl<'a, 'r> Changes<'a, 'r> {
         &mut self,
         stretch: TogetherStretch,
         answers: FoundInBoth<'_, '_>,
-        pairs: &mut Pairs<'_>,
+        pairs: &mut Pairs<'_, '_>,
         out: &mut O,
-    ) -> Result<(), ProgramError> {
+    ) -> Result<(), ProgramError>
+        requires { IsSomeAnd self.old.run (GoesOnAs stretch.is_ipv4
+            (offset_at answers.old) (offset_at answers.new)) }
+        ensures told { (both : Both) → AreWaiting pairs.entry.now.shown both self.old
+            → HasThere both stretch (offset_at answers.entry.old) (offset_at answers.entry.new)
+            → OnOk result (Tells pairs.entry.now.layout.now pairs.entry.now.shown both
+            (O.contents out.old) (O.contents out.new)) }
+        ensures waiting { (both : Both) → AreWaiting pairs.entry.now.shown both self.old
+            → HasThere both stretch (offset_at answers.entry.old) (offset_at answers.entry.new)
+            → OnOk result (AreWaiting pairs.entry.now.shown both self.new) }
+        ensures shown { pairs.exit.now.shown ≡ pairs.entry.now.shown }
+        ensures layout { pairs.exit.now.layout ≡ pairs.entry.now.layout }
+    {
         let block = stretch.block;
-        if !block.is_block() || self.joiner.push(block).is_err() {
+        if !block.is_block() {
             return Err(ProgramError::OutOfOrder);
         }
+        self.join(block)?;
         self.put_settled(pairs, out)?;
         self.keep_presence(stretch, answers);
-        if let Some(run) = &mut self.run {
-            run.last = block.last();
-        }
+        self.note_last(block.last());
         Ok(())
     }
 
@@ -262,12 +435,21 @@ impl<'a, 'r> Changes<'a, 'r> {
         &mut self,
         stretch: TogetherStretch,
         answers: FoundInBoth<'_, 'r>,
-        pairs: &mut Pairs<'_>,
+        pairs: &mut Pairs<'_, '_>,
         out: &mut O,
-    ) -> Result<(), ProgramError> {
-        if !self.has_same_records(stretch, answers) {
-            self.change_to(stretch, answers, pairs, out)?;
-        }
+    ) -> Result<(), ProgramError>
+        // Whatever both databases have: where what waits says so, and they have the answers' records in the stretch.
+        ensures told { (both : Both) → AreWaiting pairs.entry.now.shown both self.old
+            → HasThere both stretch (offset_at answers.entry.old) (offset_at answers.entry.new)
+            → OnOk result (Tells pairs.entry.now.layout.now pairs.entry.now.shown both
+            (O.contents out.old) (O.contents out.new)) }
+        ensures waiting { (both : Both) → AreWaiting pairs.entry.now.shown both self.old
+            → HasThere both stretch (offset_at answers.entry.old) (offset_at answers.entry.new)
+            → OnOk result (AreWaiting pairs.entry.now.shown both self.new) }
+        ensures shown { pairs.exit.now.shown ≡ pairs.entry.now.shown }
+        ensures layout { pairs.exit.now.layout ≡ pairs.entry.now.layout }
+    {
+        self.turn_to(stretch, answers, pairs, out)?;
         self.add(stretch, answers, pairs, out)
     }
 }

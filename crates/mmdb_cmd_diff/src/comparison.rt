@@ -105,9 +105,9 @@ impl Waiting {
 // The pairs that were compared, what waits to be, what differs, and how many networks could not be read.
 #[derive(Drop)]
 struct SoFar<'a, 'r> {
-    pairs: Pairs<'r>,
+    pairs: Pairs<'a, 'r>,
     waiting: Waiting,
-    changes: Changes<'a, 'r>,
+    changes: Changes<'r>,
     faults: u64,
     /// The network of the old database that was the last one whose record could not be read.
     faulty_old: Option<IpNetwork>,
@@ -127,7 +127,7 @@ impl<'a, 'r> SoFar<'a, 'r> {
         Ok(SoFar {
             pairs: Pairs::new(alloc, layout, databases.old(), databases.newer())?,
             waiting: Waiting::new(alloc)?,
-            changes: Changes::new(alloc, layout)?,
+            changes: Changes::new(alloc)?,
             faults: 0,
             faulty_old: None,
             faulty_new: None,
@@ -137,8 +137,8 @@ impl<'a, 'r> SoFar<'a, 'r> {
 
     // Marks the waiting pair as the last one found equal.
     fn keep_last(&mut self, index: usize) {
-        if let Some(offsets) = self.waiting.offsets.get(index) {
-            self.pairs.kept.keep_last(*offsets);
+        if let Some((_, offsets)) = self.waiting.at(index) {
+            self.pairs.keep_last(offsets);
         }
     }
 
@@ -264,7 +264,7 @@ fn compare_answers<'r, O: Write, E: Pace>(
     so_far: &mut SoFar<'_, 'r>,
     console: &mut Console<'_, O, E>,
 ) -> Result<(), ProgramError> {
-    match so_far.pairs.is_same(console.alloc, &task.layout, answers) {
+    match so_far.pairs.is_same(console.alloc, answers) {
         Ok(true) => Ok(()),
         Ok(false) => {
             let pairs = &mut so_far.pairs;
@@ -310,7 +310,7 @@ fn compare_stretch<'r, O: Write, E: Pace>(
         return Ok(());
     }
     if let Some(offsets) = offsets {
-        if so_far.pairs.is_seen_same(&task.layout, offsets) {
+        if so_far.pairs.is_seen_same(offsets) {
             return Ok(());
         }
     }

@@ -1,11 +1,18 @@
 //! The values of networks in two databases, compared by how they are shown.
-ghost use Rattle.std.specs.Prelude.{◌≡◌, true};
+ghost use Rattle.std.specs.Prelude.{◌≡◌, ◌↔◌, ℕ, List, IsTrue, true, false, IfOk, IfErr, IfSome, OnOk};
+ghost use Rattle.std.specs.Io.KnownBytes.{Appends};
+ghost use Rattle.std.specs.Option.{ForSome};
+ghost use Rattle.mmdb_reader.specs.File.{data_section};
+ghost use Rattle.mmdb_cmd_diff.specs.Lines.{WritesLine, WritesNone, line_of, line_with, front_of, is_of_output, shows_records as spec_shows_records};
 ghost use Rattle.mmdb_cmd_diff.specs.Seen.{HaveOneValueAt, AreSeenSame, AreKeptAsSeen};
+ghost use Rattle.mmdb_cmd_diff.specs.Shown.{IsShown};
+ghost use Rattle.mmdb_cmd_diff.specs.Showing.{IsNumberOf, IsShownFor, IsShownPair, offset_at};
 
+use crate::shown::{ShownPair, ShownPairs, number_of};
 use crate::texts::BothTexts;
 use json::{Token, Writer};
-use mmdb_compare::{KnownPairs, Offsets, ShownPair, ShownPairs, Side, SideBySide};
-use mmdb_console::{ProgramError, put};
+use mmdb_compare::{KnownPairs, Offsets, Side, SideBySide};
+use mmdb_console::ProgramError;
 use mmdb_found::found_json;
 use mmdb_json::compact;
 use mmdb_layout::{
@@ -21,16 +28,25 @@ const MOST_OF_SHOWN: usize = 2 << 20;
 
 const MOST_OF_TEXTS: usize = 3 << 20;
 
-/// The pairs of records that were compared last, and what is kept of their records.
+/// The pairs of records of two databases that were compared last, and what is kept of their records.
 #[derive(Drop)]
-pub(crate) struct Pairs<'r> {
+pub(crate) struct Pairs<'a, 'r> {
+    /// How they are shown.
+    pub(crate) layout: &'a Layout<'a>,
+    older: &'r Database,
+    newer: &'r Database,
     pub(crate) kept: KnownPairs,
     /// The records of both, read side by side.
     records: SideBySide<'r>,
     /// What is shown of pairs that differ.
-    shown: ShownPairs,
+    shown: ShownPairs<'r>,
     /// The texts of whole records, where those are shown.
     texts: Option<BothTexts<'r>>,
+    ghost in_old: { shown.sections.in_old ≡ data_section older.now },
+    ghost in_new: { shown.sections.in_new ≡ data_section newer.now },
+    ghost are_whole: { shown.are_whole ≡ spec_shows_records layout.now },
+    ghost texts_of_old: { ForSome texts (λ t. t.old ≡ data_section older.now) },
+    ghost texts_of_new: { ForSome texts (λ t. t.new ≡ data_section newer.now) },
 }
 
 /// Why a value can't be shown: the database that it is of, and its error.
@@ -74,6 +90,23 @@ fn values_text(
     let mut out = Writer::new(Vec::with_capacity(alloc, 128)?);
     write_object(alloc, fields, found, &mut out)?;
     Ok(out.into_inner())
+}
+
+// The text of the record at an offset of a database, or of no record.
+fn record_text_at(
+    alloc: Global,
+    database: &Database,
+    offset: Option<usize>,
+) -> Result<Vec<u8>, MaxMindDbError>
+    ensures { IfOk result (λ text. IsShown (data_section database.now) offset text.items) }
+{
+    let Some(offset) = offset else {
+        return Ok(b"null".to_vec(alloc)?);
+    };
+    let record: Value<'_> = database.stored_record(offset).decode(alloc)?;
+    let text = compact(alloc, &record);
+    drop(record);
+    Ok(text?)
 }
 
 fn record_text(alloc: Global, found: Option<&Found<'_>>) -> Result<Vec<u8>, MaxMindDbError> {
@@ -208,7 +241,9 @@ fn are_same(
 }
 
 /// Where the record of what was found is, if there is one.
-pub(crate) fn offset_of(found: Option<&Found<'_>>) -> Option<usize> {
+pub(crate) fn offset_of(found: Option<&Found<'_>>) -> Option<usize>
+    ensures { result ≡ offset_at found.entry }
+{
     match found {
         Some(found) => found.offset(),
         None => None,
@@ -216,27 +251,47 @@ pub(crate) fn offset_of(found: Option<&Found<'_>>) -> Option<usize> {
 }
 
 impl FoundInBoth<'_, '_> {
-    // The offsets by which the pair is kept, unless one is too large.
+    // The offsets by which it is kept whether the pair is the same, unless one is too large.
     fn offsets(&self) -> Option<Offsets> {
         Offsets::of(offset_of(self.old), offset_of(self.new))
     }
 
+    // The number by which it is kept what is shown of the pair, unless an offset is too large.
+    fn number(&self) -> Option<usize>
+        ensures { IfSome result (IsNumberOf (offset_at self.now.old) (offset_at self.now.new)) }
+    {
+        number_of(offset_of(self.old), offset_of(self.new))
+    }
+
     /// Whether others are the same records of the same databases.
-    pub(crate) fn are_same_records(&self, others: FoundInBoth<'_, '_>) -> bool {
+    pub(crate) fn are_same_records(&self, others: FoundInBoth<'_, '_>) -> bool
+        ensures old { result ≡ true → offset_at self.now.old ≡ offset_at others.entry.old }
+        ensures new { result ≡ true → offset_at self.now.new ≡ offset_at others.entry.new }
+    {
         offset_of(self.old) == offset_of(others.old) && offset_of(self.new) == offset_of(others.new)
     }
 }
 
-// What two databases have for a network as JSON, of which each value is read.
-fn shown_by_values(
+// What two databases have for a network as JSON objects of the values that are asked for.
+fn shown_values(
     alloc: Global,
-    layout: &Layout<'_>,
+    fields: &ChosenFields<'_>,
     answers: FoundInBoth<'_, '_>,
 ) -> Result<ShownPair, MaxMindDbError> {
     Ok(ShownPair {
-        old: value_text(alloc, layout, answers.old)?,
-        new: value_text(alloc, layout, answers.new)?,
+        old: values_text(alloc, fields, answers.old)?,
+        new: values_text(alloc, fields, answers.new)?,
     })
+}
+
+// Whether whole records are shown.
+fn shows_records(layout: &Layout<'_>) -> bool
+    ensures { result ≡ spec_shows_records layout.now }
+{
+    match layout {
+        Layout::Records => true,
+        Layout::Values(_) | Layout::Cells(_) => false,
+    }
 }
 
 // The texts of the records of two databases, where whole ones are shown.
@@ -245,8 +300,11 @@ fn texts_of<'r>(
     layout: &Layout<'_>,
     old: &'r Database,
     new: &'r Database,
-) -> Option<BothTexts<'r>> {
-    if layout.has_records() {
+) -> Option<BothTexts<'r>>
+    ensures old { ForSome result (λ texts. texts.old ≡ data_section old.now) }
+    ensures new { ForSome result (λ texts. texts.new ≡ data_section new.now) }
+{
+    if shows_records(layout) {
         Some(BothTexts::new(alloc, old.data_section(), new.data_section(), MOST_OF_TEXTS))
     } else {
         None
@@ -258,7 +316,10 @@ fn note_unreadable(
     texts: &mut BothTexts<'_>,
     unreadable: &UnreadableValue,
     answers: FoundInBoth<'_, '_>,
-) {
+)
+    ensures old { texts.exit.now.old ≡ texts.entry.now.old }
+    ensures new { texts.exit.now.new ≡ texts.entry.now.new }
+{
     let found = match unreadable.side {
         Side::Old => answers.old,
         Side::New => answers.new,
@@ -268,18 +329,23 @@ fn note_unreadable(
     }
 }
 
-impl<'r> Pairs<'r> {
+impl<'a, 'r> Pairs<'a, 'r> {
     /// No pairs yet.
     pub(crate) fn new(
         alloc: Global,
-        layout: &Layout<'_>,
+        layout: &'a Layout<'a>,
         old: &'r Database,
         new: &'r Database,
-    ) -> Result<Pairs<'r>, AllocError> {
+    ) -> Result<Pairs<'a, 'r>, AllocError> {
+        let (in_old, in_new) = (old.data_section(), new.data_section());
+        let are_whole = shows_records(layout);
         Ok(Pairs {
+            layout,
+            older: old,
+            newer: new,
             kept: KnownPairs::new(alloc)?,
-            records: SideBySide::new(alloc, old.data_section(), new.data_section())?,
-            shown: ShownPairs::new(alloc, MOST_OF_SHOWN),
+            records: SideBySide::new(alloc, in_old, in_new)?,
+            shown: ShownPairs::new(alloc, in_old, in_new, are_whole, MOST_OF_SHOWN),
             texts: texts_of(alloc, layout, old, new),
         })
     }
@@ -287,15 +353,28 @@ impl<'r> Pairs<'r> {
     /// Lets go of all that is kept as text.
     #[cold]
     #[inline(never)]
-    pub(crate) fn let_go(&mut self) {
+    pub(crate) fn let_go(&mut self)
+        ensures shown { self.new.shown ≡ self.old.shown }
+        ensures layout { self.new.layout ≡ self.old.layout }
+    {
         self.shown.clear();
         if let Some(texts) = &mut self.texts {
             texts.clear();
         }
     }
 
+    /// Says of two records that are kept as the same that they came last.
+    pub(crate) fn keep_last(&mut self, offsets: Option<Offsets>) {
+        self.kept.keep_last(offsets);
+    }
+
     // What two databases have for a network, where whole records are shown and both can be laid out without a tree.
-    fn laid_out(&mut self, alloc: Global, answers: FoundInBoth<'_, '_>) -> Option<ShownPair> {
+    fn laid_out(&mut self, alloc: Global, answers: FoundInBoth<'_, '_>) -> Option<ShownPair>
+        ensures pair { IfSome result
+            (IsShownPair self.old.shown (offset_at answers.entry.old) (offset_at answers.entry.new)) }
+        ensures shown { self.new.shown ≡ self.old.shown }
+        ensures layout { self.new.layout ≡ self.old.layout }
+    {
         match &mut self.texts {
             Some(texts) => texts.shown(alloc, offset_of(answers.old), offset_of(answers.new)),
             None => None,
@@ -303,12 +382,18 @@ impl<'r> Pairs<'r> {
     }
 
     // Whether the same is shown. What differs is shown next.
-    fn is_shown_same(&mut self, answers: FoundInBoth<'_, '_>, shown: ShownPair) -> bool {
+    fn is_shown_same(&mut self, answers: FoundInBoth<'_, '_>, shown: ShownPair) -> bool
+        requires { IsShownPair self.old.shown (offset_at answers.old) (offset_at answers.new)
+            shown }
+        ensures same { IsTrue result ↔ (shown.old.items ≡ shown.new.items) }
+        ensures shown { self.new.shown ≡ self.old.shown }
+        ensures layout { self.new.layout ≡ self.old.layout }
+    {
         if shown.old == shown.new {
             return true;
         }
-        if let Some(offsets) = answers.offsets() {
-            self.shown.note_last(offsets, shown);
+        if let Some(number) = answers.number() {
+            self.shown.note_last(number, shown);
         }
         false
     }
@@ -317,10 +402,9 @@ impl<'r> Pairs<'r> {
     fn compare_values(
         &mut self,
         alloc: Global,
-        layout: &Layout<'_>,
         answers: FoundInBoth<'_, '_>,
     ) -> Result<bool, UnreadableValue> {
-        let is_same = are_same(alloc, layout, answers);
+        let is_same = are_same(alloc, self.layout, answers);
         self.note(&is_same, answers);
         is_same
     }
@@ -330,13 +414,12 @@ impl<'r> Pairs<'r> {
     fn compare(
         &mut self,
         alloc: Global,
-        layout: &Layout<'_>,
         answers: FoundInBoth<'_, '_>,
     ) -> Result<bool, UnreadableValue> {
         self.shown.forget_last();
         match self.laid_out(alloc, answers) {
             Some(shown) => Ok(self.is_shown_same(answers, shown)),
-            None => self.compare_values(alloc, layout, answers),
+            None => self.compare_values(alloc, answers),
         }
     }
 
@@ -353,12 +436,12 @@ impl<'r> Pairs<'r> {
 
     // Whether whole records are shown and those at two offsets are seen to be equal.
     #[inline(always)]
-    fn are_equal(&mut self, layout: &Layout<'_>, old: Option<usize>, new: Option<usize>) -> bool
+    fn are_equal(&mut self, old: Option<usize>, new: Option<usize>) -> bool
         ensures same { result ≡ true → HaveOneValueAt self.old.records old new }
         ensures records { self.new.records ≡ self.old.records }
         ensures kept { self.new.kept ≡ self.old.kept }
     {
-        match (layout.has_records(), old, new) {
+        match (shows_records(self.layout), old, new) {
             (true, Some(old), Some(new)) => self.records.have_equal(old, new),
             _ => false,
         }
@@ -366,7 +449,7 @@ impl<'r> Pairs<'r> {
 
     /// Whether the records at two offsets are seen to be shown the same, before they are looked up: they were compared, or
     /// are equal whole records. Of others `is_same` says it.
-    pub(crate) fn is_seen_same(&mut self, layout: &Layout<'_>, offsets: Offsets) -> bool
+    pub(crate) fn is_seen_same(&mut self, offsets: Offsets) -> bool
         ensures same { result ≡ true → AreSeenSame self.old.records self.old.kept offsets }
         ensures kept { AreKeptAsSeen self.old.records self.old.kept self.new.kept }
         ensures records { self.new.records ≡ self.old.records }
@@ -377,7 +460,7 @@ impl<'r> Pairs<'r> {
         let Some((old, new)) = offsets.both() else {
             return false;
         };
-        if !self.are_equal(layout, Some(old), Some(new)) {
+        if !self.are_equal(Some(old), Some(new)) {
             return false;
         }
         self.kept.keep(offsets, true);
@@ -389,20 +472,19 @@ impl<'r> Pairs<'r> {
     fn try_same(
         &mut self,
         alloc: Global,
-        layout: &Layout<'_>,
         answers: FoundInBoth<'_, '_>,
     ) -> Result<bool, UnreadableValue> {
         let Some(offsets) = answers.offsets() else {
             let (old, new) = (offset_of(answers.old), offset_of(answers.new));
-            if self.are_equal(layout, old, new) {
+            if self.are_equal(old, new) {
                 return Ok(true);
             }
-            return self.compare(alloc, layout, answers);
+            return self.compare(alloc, answers);
         };
         if let Some(is_same) = self.kept.kept(offsets) {
             return Ok(is_same);
         }
-        let is_same = self.compare(alloc, layout, answers)?;
+        let is_same = self.compare(alloc, answers)?;
         self.kept.keep(offsets, is_same);
         Ok(is_same)
     }
@@ -413,10 +495,9 @@ impl<'r> Pairs<'r> {
     fn is_same_by_values(
         &mut self,
         alloc: Global,
-        layout: &Layout<'_>,
         answers: FoundInBoth<'_, '_>,
     ) -> Result<bool, UnreadableValue> {
-        let is_same = self.compare_values(alloc, layout, answers)?;
+        let is_same = self.compare_values(alloc, answers)?;
         if let Some(offsets) = answers.offsets() {
             self.kept.keep(offsets, is_same);
         }
@@ -428,16 +509,33 @@ impl<'r> Pairs<'r> {
     pub(crate) fn is_same(
         &mut self,
         alloc: Global,
-        layout: &Layout<'_>,
         answers: FoundInBoth<'_, '_>,
     ) -> Result<bool, UnreadableValue> {
-        match self.try_same(alloc, layout, answers) {
+        match self.try_same(alloc, answers) {
             Err(unreadable) if unreadable.is_memory() => {
                 drop(unreadable);
                 self.let_go();
-                self.is_same_by_values(alloc, layout, answers)
+                self.is_same_by_values(alloc, answers)
             }
             done => done,
+        }
+    }
+
+    // What two databases have for a network as JSON, of which each value is read.
+    fn shown_by_values(
+        &self,
+        alloc: Global,
+        answers: FoundInBoth<'_, '_>,
+    ) -> Result<ShownPair, MaxMindDbError>
+        ensures { IfOk result
+            (IsShownPair self.now.shown (offset_at answers.entry.old) (offset_at answers.entry.new)) }
+    {
+        match self.layout {
+            Layout::Records => Ok(ShownPair {
+                old: record_text_at(alloc, self.older, offset_of(answers.old))?,
+                new: record_text_at(alloc, self.newer, offset_of(answers.new))?,
+            }),
+            Layout::Values(fields) | Layout::Cells(fields) => shown_values(alloc, fields, answers),
         }
     }
 
@@ -445,25 +543,34 @@ impl<'r> Pairs<'r> {
     fn shown_of(
         &mut self,
         alloc: Global,
-        layout: &Layout<'_>,
         answers: FoundInBoth<'_, '_>,
-    ) -> Result<ShownPair, MaxMindDbError> {
+    ) -> Result<ShownPair, MaxMindDbError>
+        ensures pair { IfOk result
+            (IsShownPair self.old.shown (offset_at answers.entry.old) (offset_at answers.entry.new)) }
+        ensures shown { self.new.shown ≡ self.old.shown }
+        ensures layout { self.new.layout ≡ self.old.layout }
+    {
         match self.laid_out(alloc, answers) {
             Some(shown) => Ok(shown),
-            None => shown_by_values(alloc, layout, answers),
+            None => self.shown_by_values(alloc, answers),
         }
     }
 
-    // What is shown of two answers, kept from now on by the offsets of their records.
+    // What is shown of two answers, kept from now on by the number of their records.
     fn shown_anew(
         &mut self,
         alloc: Global,
-        layout: &Layout<'_>,
-        offsets: Offsets,
+        number: usize,
         answers: FoundInBoth<'_, '_>,
-    ) -> Result<ShownPair, MaxMindDbError> {
-        let shown = self.shown_of(alloc, layout, answers)?;
-        self.shown.keep(alloc, offsets, &shown);
+    ) -> Result<ShownPair, MaxMindDbError>
+        requires { IsNumberOf (offset_at answers.old) (offset_at answers.new) number }
+        ensures pair { IfOk result
+            (IsShownPair self.old.shown (offset_at answers.entry.old) (offset_at answers.entry.new)) }
+        ensures shown { self.new.shown ≡ self.old.shown }
+        ensures layout { self.new.layout ≡ self.old.layout }
+    {
+        let shown = self.shown_of(alloc, answers)?;
+        self.shown.keep(alloc, number, &shown);
         Ok(shown)
     }
 
@@ -472,15 +579,19 @@ impl<'r> Pairs<'r> {
     fn try_shown(
         &mut self,
         alloc: Global,
-        layout: &Layout<'_>,
         answers: FoundInBoth<'_, '_>,
-    ) -> Result<ShownPair, MaxMindDbError> {
-        let Some(offsets) = answers.offsets() else {
-            return self.shown_of(alloc, layout, answers);
+    ) -> Result<ShownPair, MaxMindDbError>
+        ensures pair { IfOk result
+            (IsShownPair self.old.shown (offset_at answers.entry.old) (offset_at answers.entry.new)) }
+        ensures shown { self.new.shown ≡ self.old.shown }
+        ensures layout { self.new.layout ≡ self.old.layout }
+    {
+        let Some(number) = answers.number() else {
+            return self.shown_of(alloc, answers);
         };
-        match self.shown.kept(alloc, offsets)? {
+        match self.shown.kept(alloc, number)? {
             Some(shown) => Ok(shown),
-            None => self.shown_anew(alloc, layout, offsets, answers),
+            None => self.shown_anew(alloc, number, answers),
         }
     }
 
@@ -489,25 +600,56 @@ impl<'r> Pairs<'r> {
     pub(crate) fn shown_by(
         &mut self,
         alloc: Global,
-        layout: &Layout<'_>,
         answers: FoundInBoth<'_, '_>,
-    ) -> Result<ShownPair, MaxMindDbError> {
-        match self.try_shown(alloc, layout, answers) {
+    ) -> Result<ShownPair, MaxMindDbError>
+        ensures pair { IfOk result
+            (IsShownPair self.old.shown (offset_at answers.entry.old) (offset_at answers.entry.new)) }
+        ensures shown { self.new.shown ≡ self.old.shown }
+        ensures layout { self.new.layout ≡ self.old.layout }
+    {
+        match self.try_shown(alloc, answers) {
             Err(MaxMindDbError::Memory) => {
                 self.let_go();
-                shown_by_values(alloc, layout, answers)
+                self.shown_by_values(alloc, answers)
             }
             done => done,
         }
     }
 }
 
+// Writes some bytes.
+#[inline(always)]
+fn put<O: Write>(bytes: &[u8], out: &mut O) -> Result<(), ProgramError>
+    ensures written { OnOk result (Appends (O.contents out.old) (O.contents out.new) bytes.now) }
+    ensures failed { IfErr result (λ e. is_of_output e ≡ true) }
+{
+    match out.write_all(bytes) {
+        Ok(()) => Ok(()),
+        Err(error) => Err(ProgramError::Write(error)),
+    }
+}
+
 // Puts the beginning of a line of JSON together, up to the value of the old database.
-fn begin_line(network: IpNetwork, line: &mut Vec<u8>) -> Result<(), AllocError> {
+fn begin_line(network: IpNetwork, line: &mut Vec<u8>) -> Result<(), AllocError>
+    ensures { OnOk result (line.new.items ≡ front_of network) }
+{
     line.clear();
     line.extend_from_slice(b"{\"network\":\"")?;
     network.push_text(line)?;
     line.extend_from_slice(b"\",\"old\":")
+}
+
+// Writes the parts of a line of JSON.
+fn put_parts<O: Write>(front: &[u8], shown: &ShownPair, out: &mut O) -> Result<(), ProgramError>
+    ensures written { OnOk result (Appends (O.contents out.old) (O.contents out.new)
+        (line_with front.now shown.now)) }
+    ensures failed { IfErr result (λ e. is_of_output e ≡ true) }
+{
+    put(front, out)?;
+    put(shown.old.as_slice(), out)?;
+    put(b",\"new\":", out)?;
+    put(shown.new.as_slice(), out)?;
+    put(b"}\n", out)
 }
 
 // Writes a line of JSON.
@@ -516,22 +658,27 @@ fn put_object<O: Write>(
     shown: &ShownPair,
     line: &mut Vec<u8>,
     out: &mut O,
-) -> Result<(), ProgramError> {
+) -> Result<(), ProgramError>
+    ensures written { OnOk result (Appends (O.contents out.old) (O.contents out.new)
+        (line_of network shown.now)) }
+    ensures failed { IfErr result (WritesNone (O.contents out.old) (O.contents out.new)) }
+{
     begin_line(network, line)?;
-    let (old, new) = (shown.old.as_slice(), shown.new.as_slice());
-    for part in [line.as_slice(), old, b",\"new\":", new, b"}\n"] {
-        put(part, out)?;
-    }
-    Ok(())
+    put_parts(line.as_slice(), shown, out)
 }
 
+// Writes a line of cells.
 fn put_cells<O: Write>(
     alloc: Global,
     fields: &ChosenFields<'_>,
     network: IpNetwork,
     answers: FoundInBoth<'_, '_>,
     out: &mut O,
-) -> Result<(), ProgramError> {
+) -> Result<(), ProgramError>
+    ensures written { OnOk result ((text : List ℕ)
+        × Appends (O.contents out.old) (O.contents out.new) text) }
+    ensures failed { IfErr result (WritesNone (O.contents out.old) (O.contents out.new)) }
+{
     let text = network.to_string(alloc)?;
     let line = line_of_cells(alloc, fields, text.as_str(), &[answers.old, answers.new])?;
     put(line.as_slice(), out)
@@ -545,7 +692,7 @@ pub(crate) struct PairOfNetwork<'f, 'r> {
 }
 
 /// Writes the line of a network with its values in both databases. Of a line of JSON the beginning is put together in
-/// `line`.
+/// `line`. Nothing is written where memory is out.
 pub(crate) fn put_difference<O: Write>(
     alloc: Global,
     layout: &Layout<'_>,
@@ -553,10 +700,14 @@ pub(crate) fn put_difference<O: Write>(
     pair: PairOfNetwork<'_, '_>,
     line: &mut Vec<u8>,
     out: &mut O,
-) -> Result<(), ProgramError> {
+) -> Result<(), ProgramError>
+    ensures written { OnOk result (WritesLine layout.now network pair.entry.shown.now
+        (O.contents out.old) (O.contents out.new)) }
+    ensures failed { IfErr result (WritesNone (O.contents out.old) (O.contents out.new)) }
+{
     match layout {
         Layout::Cells(fields) => put_cells(alloc, fields, network, pair.answers, out),
-        _ => put_object(network, pair.shown, line, out),
+        Layout::Records | Layout::Values(_) => put_object(network, pair.shown, line, out),
     }
 }
 

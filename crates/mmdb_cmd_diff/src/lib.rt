@@ -6,6 +6,7 @@ mod comparison;
 mod counts;
 mod differences;
 mod same;
+mod shown;
 mod texts;
 mod two_databases;
 

@@ -3,7 +3,8 @@ ghost use Rattle.std.specs.Prelude.{◌≡◌, ℕ, [], Some, IfSome};
 ghost use Rattle.mmdb_json.specs.RecordText.{AppendsRecord};
 ghost use Rattle.mmdb_cmd_diff.specs.Shown.{IsLaidOut, text_or_null, IsShown};
 
-use mmdb_compare::{ShownPair, Side};
+use crate::shown::ShownPair;
+use mmdb_compare::Side;
 use mmdb_json::{RecordText, RecordTexts};
 use std::alloc::Global;
 
@@ -79,7 +80,10 @@ fn is_suspected(offset: Option<usize>, texts: &RecordTexts<'_>) -> bool {
 
 impl<'r> BothTexts<'r> {
     /// Of the records of two data sections, of which none was met yet. At most `most` bytes are kept of each.
-    pub(crate) fn new(alloc: Global, old: &'r [u8], new: &'r [u8], most: usize) -> BothTexts<'r> {
+    pub(crate) fn new(alloc: Global, old: &'r [u8], new: &'r [u8], most: usize) -> BothTexts<'r>
+        ensures old { result.old ≡ old.now }
+        ensures new { result.new ≡ new.now }
+    {
         BothTexts {
             old: RecordTexts::new(alloc, old, most),
             new: RecordTexts::new(alloc, new, most),
@@ -87,13 +91,19 @@ impl<'r> BothTexts<'r> {
     }
 
     /// Lets go of all that is kept.
-    pub(crate) fn clear(&mut self) {
+    pub(crate) fn clear(&mut self)
+        ensures old { self.exit.now.old ≡ self.entry.now.old }
+        ensures new { self.exit.now.new ≡ self.entry.now.new }
+    {
         self.old.clear();
         self.new.clear();
     }
 
     /// Notes that the record at an offset of a side can't be read.
-    pub(crate) fn note_unreadable(&mut self, side: Side, offset: usize) {
+    pub(crate) fn note_unreadable(&mut self, side: Side, offset: usize)
+        ensures old { self.exit.now.old ≡ self.entry.now.old }
+        ensures new { self.exit.now.new ≡ self.entry.now.new }
+    {
         match side {
             Side::Old => self.old.note_unreadable(offset),
             Side::New => self.new.note_unreadable(offset),
@@ -101,7 +111,10 @@ impl<'r> BothTexts<'r> {
     }
 
     /// Notes that two records that were read to be compared can be read.
-    pub(crate) fn note_readable(&mut self) {
+    pub(crate) fn note_readable(&mut self)
+        ensures old { self.exit.now.old ≡ self.entry.now.old }
+        ensures new { self.exit.now.new ≡ self.entry.now.new }
+    {
         self.old.note_readable();
         self.new.note_readable();
     }

@@ -13,11 +13,13 @@ use Rattle.mmdb_filter.specs.declared.counts.Outcome.{Outcome}
 use Rattle.mmdb_filter.specs.declared.counts.Outcome.TheVariants.{Absent, Unreadable, Failed}
 use Rattle.mmdb_filter.specs.Lines.{StandsBehind}
 use Rattle.mmdb_cmd_enrich.specs.Added.{Adds, AddsAt, PutsAt, PutsFor, PutsFound, PutsFrontText, PutsLead, PutsRecords, PutsRejected, PutsUnread}
-use Rattle.mmdb_cmd_enrich.specs.Layers.{CanAskAny, CanAskNone, AnyRejects, HaveAll, IsKey, IsKeyFor, has_record}
+use Rattle.mmdb_cmd_enrich.specs.Layers.{CanAskAny, CanAskNone, AnyRejects, HaveAll, AreKeys, AreKeysFor, IsKey, has_record}
 use Rattle.mmdb_cmd_enrich.specs.Networks.{IsShown}
 use Rattle.mmdb_cmd_enrich.specs.Template.{Template, ReadsBy, IsFrontText, IsReadTo, IsText, IsNoneText, ReadsPlace, cells, is_kept, member, shows_network, text_at}
-use Rattle.mmdb_cmd_enrich.specs.Wanted.{AddsOf}
+use Rattle.mmdb_cmd_enrich.specs.Wanted.{AddsOf, IsKeptByAll}
 use Rattle.mmdb_cmd_enrich.specs.Working.{IsPlaceIn}
+use Rattle.mmdb_cmd_enrich.specs.declared.cache.KeptBy.{KeptBy}
+use Rattle.mmdb_cmd_enrich.specs.declared.cache.RecordKeys.{RecordKeys}
 use Rattle.mmdb_cmd_enrich.specs.declared.members.MemberKind.{MemberKind}
 use Rattle.mmdb_cmd_enrich.specs.declared.members.MemberKind.TheVariants.{Fields, NetworkAndFields, Records}
 use Rattle.mmdb_cmd_enrich.specs.declared.members.NamedField.{NamedField}
@@ -28,12 +30,14 @@ use Rattle.mmdb_cmd_enrich.proofs.LayerLaws.{keys_same}
 use Rattle.mmdb_cmd_enrich.proofs.ShownLaws.{yes_of, no_of}
 
 -- what is added for records, in whichever network, is added for all of their key
-pub added_of_keys : (template : Template) (dbs : List Database) (offsets : List (Option ℕ)) (key : Option ℕ) (text : List ℕ) (outcome : Outcome)
-    → IfSome key (IsKey dbs offsets) → ((shown : Option IpNetwork) → AddsAt template dbs shown offsets text outcome) → IfSome key (λ n. AddsOf (record { template = template; databases = dbs }) n text outcome)
-added_of_keys template dbs offsets None text outcome is adds = tt
-added_of_keys template dbs offsets (Some key) text outcome is adds = λ shown others same.
-    let P : List (Option ℕ) → Type 0 = λ o. AddsAt template dbs shown o text outcome in
-    subst P (keys_same dbs offsets others key is same) (adds shown)
+pub added_of_keys : (template : Template) (dbs : List Database) (offsets : List (Option ℕ)) (key : Option ℕ) (by : KeptBy) (text : List ℕ) (outcome : Outcome)
+    → IsKeptByAll key by → IfSome key (IsKey dbs offsets) → ((shown : Option IpNetwork) → AddsAt template dbs shown offsets text outcome) → AddsOf (record { template = template; databases = dbs }) by text outcome
+added_of_keys template dbs offsets None by text outcome kept is adds =
+    subst (λ b. AddsOf (record { template = template; databases = dbs }) b text outcome) (sym kept) (λ shown others none. absurd none)
+added_of_keys template dbs offsets (Some key) by text outcome kept is adds =
+    let P : List (Option ℕ) → Option IpNetwork → Type 0 = λ o shown. AddsAt template dbs shown o text outcome in
+    subst (λ b. AddsOf (record { template = template; databases = dbs }) b text outcome) (sym kept)
+    (λ shown others same. subst (λ o. P o shown) (keys_same dbs offsets others key is same) (adds shown))
 
 -- what holds of a number if there is one
 pub held : {A : Type 0} (o : Option A) (x : A) (P : A → Type 0) → o ≡ Some x → IfSome o P → P x
@@ -47,7 +51,7 @@ stands_behind (member kind long reading path nulls name fields) text goes_on pla
     (is.ends.within, λ goes. let not_long : ◌≡◌ {A = Bool} true false = sym goes ∙ is.whole in absurd (cc))
 
 -- the text of records that may be kept is the same in whichever network
-text_any : (template : Template) (dbs : List Database) (one other : Option IpNetwork) (offsets : List (Option ℕ)) (text : List ℕ) (outcome : Outcome)
+pub text_any : (template : Template) (dbs : List Database) (one other : Option IpNetwork) (offsets : List (Option ℕ)) (text : List ℕ) (outcome : Outcome)
     → is_kept template ≡ true → IsText template dbs one offsets text outcome → IsText template dbs other offsets text outcome
 text_any (cells rows reading column breaks network paths) dbs one other offsets text outcome kept is = is
 text_any (member Fields long reading path nulls name fields) dbs one other offsets text outcome kept is = is
@@ -88,11 +92,6 @@ whole_after template dbs place shows shown offsets fares old middle new wanted i
   put ∙ (ap (λ l. l ++ text_at place.has_comma text) first ∙ append_assoc old front (text_at place.has_comma text)),
 )
 
--- the text that is kept of the number of records
-pub kept_records : (template : Template) (dbs : List Database) (place : RowPlace) (shown : Option IpNetwork) (offsets : List (Option ℕ)) (key : ℕ) (text : List ℕ) (outcome fares : Outcome) (old new : List ℕ)
-    → IsKey dbs offsets key → AddsOf (record { template = template; databases = dbs }) key text outcome → PutsAt place text outcome fares old new → PutsRecords template dbs place shown offsets fares old new
-kept_records template dbs place shown offsets key text outcome fares old new is adds put = (text, outcome, adds shown offsets is, put)
-
 match_weaker : (b : Bool) (A B : Type 0) → (A → B) → MatchBool b A ⊤ → MatchBool b B ⊤
 match_weaker true A B f a = f a
 match_weaker false A B f a = tt
@@ -105,12 +104,18 @@ found_added template dbs place address shows offsets fares old new can have is (
     let here = match_weaker (shows_network template) (shows shown) (IsShown dbs address (has_record offsets) shown) (is shown) wanted in
     (front ++ text_at place.has_comma text, inr (can, offsets, have, (shown, front, text, here, ahead, adds, refl)), put)
 
--- the text that is kept of the number of the records of an address
-pub kept_added : (template : Template) (dbs : List Database) (place : RowPlace) (address : IpAddr) (key : ℕ) (text : List ℕ) (outcome fares : Outcome) (old new : List ℕ)
-    → shows_network template ≡ false → IsKeyFor dbs address key → AddsOf (record { template = template; databases = dbs }) key text outcome → PutsAt place text outcome fares old new → PutsFor template dbs place (Some address) fares old new
-kept_added template dbs place address key text outcome fares old new none (can, offsets, have, is) adds (same, put) =
+-- where something is kept by the numbers of records, there are such records
+pub keys_met : {A : Type 0} (dbs : List Database) (address : IpAddr) (keys : RecordKeys) (kept : Option A) (it : A)
+    → kept ≡ Some it → (keys.all ≡ None → keys.first ≡ None → kept ≡ None) → AreKeysFor dbs address keys → CanAskAny dbs address × (offsets : List (Option ℕ)) × HaveAll dbs address offsets × AreKeys dbs offsets keys
+keys_met {A} dbs address keys kept it is none (inl (all, first)) = let not : ◌≡◌ {A = Option A} None (Some it) = sym (none all first) ∙ is in absurd (cc)
+keys_met dbs address keys kept it is none (inr met) = met
+
+-- the text that is kept of records of an address
+pub kept_added : (template : Template) (dbs : List Database) (place : RowPlace) (address : IpAddr) (offsets : List (Option ℕ)) (text : List ℕ) (outcome fares : Outcome) (old new : List ℕ)
+    → shows_network template ≡ false → CanAskAny dbs address → HaveAll dbs address offsets → AddsAt template dbs None offsets text outcome → PutsAt place text outcome fares old new → PutsFor template dbs place (Some address) fares old new
+kept_added template dbs place address offsets text outcome fares old new none can have adds (same, put) =
     let here = no_of (shows_network template) (IsShown dbs address (has_record offsets) None) ⊤ none tt in
-    let at = subst (AddsAt template dbs None offsets text) (sym same) (adds None offsets is) in
+    let at = subst (AddsAt template dbs None offsets text) (sym same) adds in
     (text_at place.has_comma text, inr (can, offsets, have, (None, [], text, here, no_front template None none, at, refl)), put)
 
 -- that of an address that is rejected

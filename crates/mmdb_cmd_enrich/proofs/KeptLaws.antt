@@ -1,40 +1,38 @@
 -- What stays kept, and what it takes.
-use Rattle.std.proofs.Common.{◌≡◌, ◌⊎◌, inl, inr, ℕ, ◌+◌, ◌<◌, List, [], ◌∷◌, ◌++◌, Option, Some, None, refl, sym, ap, ◌∙◌, length, subst, slice_set, slice_index_or, arith}
+use Rattle.std.proofs.Common.{◌≡◌, ◌⊎◌, inl, inr, ℕ, ◌+◌, ◌<◌, List, [], ◌∷◌, ◌++◌, refl, sym, ap, ◌∙◌, length, subst, slice_set, slice_index_or, arith}
 use Rattle.std.proofs.lemmas.List.Elements.{All-set, All-append}
 use Rattle.std.proofs.lemmas.List.{length-set}
 use Rattle.std.proofs.lemmas.List.Sums.{sum_by-set, sum_by-append}
 use Rattle.std.specs.List.{All, sum_by}
 use Rattle.mmdb_cmd_enrich.specs.declared.cache.Slot.{Slot}
 use Rattle.mmdb_cmd_enrich.specs.declared.cache.Bucket.{Bucket}
+use Rattle.mmdb_cmd_enrich.specs.declared.cache.KeptBy.{KeptBy}
+use Rattle.mmdb_cmd_enrich.specs.declared.cache.KeptBy.TheVariants.{Nothing}
 use Rattle.mmdb_filter.specs.declared.counts.Outcome.{Outcome}
 use Rattle.mmdb_cmd_enrich.specs.Kept.{IsKept, IsKeptAt, AreFew, AreFewAt, heap_at, IsBounded}
 use Rattle.mmdb_cmd_enrich.specs.KeptCells.{bytes_of, heap_of}
 use Rattle.mmdb_cmd_enrich.specs.Wanted.{Wanted, AddsOf}
 
-same_some : (m n : ℕ) → Some m ≡ Some n → m ≡ n
-same_some m n e = cc
-
 -- a bucket of no record
 pub record IsEmptyPlace (bucket : Bucket) : Type 0 where
-  pub newer : bucket.newer.offset ≡ None
-  pub older : bucket.older.offset ≡ None
+  pub newer : bucket.newer.by ≡ Nothing
+  pub older : bucket.older.by ≡ Nothing
   pub newer_bytes : bytes_of bucket.newer.cells ≡ []
   pub older_bytes : bytes_of bucket.older.cells ≡ []
   pub heap : heap_at bucket ≡ 0
 
 -- a slot of no record
-empty_kept : (wanted : Wanted) (slot : Slot) → slot.offset ≡ None → IsKept wanted slot
-empty_kept wanted slot none offset is = let e : ◌≡◌ {A = Option ℕ} None (Some offset) = sym none ∙ is in absurd (cc)
+empty_kept : (wanted : Wanted) (slot : Slot) → slot.by ≡ Nothing → IsKept wanted slot
+empty_kept wanted slot none = subst (λ by. AddsOf wanted by (bytes_of slot.cells) slot.outcome) (sym none) (λ shown offsets is. absurd is)
 
 pub nothing_kept : (wanted : Wanted) (buckets : List Bucket) → All IsEmptyPlace buckets → All (IsKeptAt wanted) buckets
 nothing_kept wanted buckets none k d l = (empty_kept wanted (slice_index_or buckets k d).newer (none k d l).newer, empty_kept wanted (slice_index_or buckets k d).older (none k d l).older)
 
 -- the slot of a record
-pub one_kept : (wanted : Wanted) (offset : ℕ) (slot : Slot) (cells : List ℕ) (outcome : Outcome)
-    → slot.offset ≡ Some offset → bytes_of slot.cells ≡ cells → slot.outcome ≡ outcome → AddsOf wanted offset cells outcome → IsKept wanted slot
-one_kept wanted offset slot cells outcome o c f add other is =
-    let same : offset ≡ other = same_some offset other (sym o ∙ is) in
-    subst (λ n. AddsOf wanted n (bytes_of slot.cells) slot.outcome) same (subst (λ x. AddsOf wanted offset (bytes_of slot.cells) x) (sym f) (subst (λ x. AddsOf wanted offset x outcome) (sym c) add))
+pub one_kept : (wanted : Wanted) (by : KeptBy) (slot : Slot) (cells : List ℕ) (outcome : Outcome)
+    → slot.by ≡ by → bytes_of slot.cells ≡ cells → slot.outcome ≡ outcome → AddsOf wanted by cells outcome → IsKept wanted slot
+one_kept wanted by slot cells outcome b c f add =
+    subst (λ k. AddsOf wanted k (bytes_of slot.cells) slot.outcome) (sym b) (subst (λ x. AddsOf wanted by (bytes_of slot.cells) x) (sym f) (subst (λ x. AddsOf wanted by x outcome) (sym c) add))
 
 -- a bucket with other slots
 pub place_set : (P : Bucket → Type 0) (buckets : List Bucket) (at : ℕ) (old new : Bucket) → at < length buckets → slice_index_or buckets at old ≡ old

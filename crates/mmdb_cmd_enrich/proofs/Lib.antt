@@ -10,6 +10,7 @@ mod NetworkLaws
 mod OneLaws
 mod LayerLaws
 mod AddedLaws
+mod FirstLaws
 mod AheadLaws
 mod AskedLaws
 mod MemberLaws

@@ -1,18 +1,19 @@
 -- What a cache keeps: of each record that it has, what is added for it.
-use Rattle.std.specs.Prelude.{◌≡◌, ◌≤◌, ℕ, ◌+◌, List, [], Some, None, length}
+use Rattle.std.specs.Prelude.{◌≡◌, ◌≤◌, ℕ, ◌+◌, List, [], length}
 use Rattle.std.specs.List.{All, sum_by}
 use Rattle.mmdb_cmd_enrich.specs.declared.cache.Bucket.{Bucket}
 use Rattle.mmdb_cmd_enrich.specs.declared.cache.Slot.{Slot}
+use Rattle.mmdb_cmd_enrich.specs.declared.cache.KeptBy.TheVariants.{Nothing}
 use Rattle.mmdb_cmd_enrich.specs.declared.kept_cells.KeptCells.{KeptCells}
 use Rattle.mmdb_cmd_enrich.specs.KeptCells.{bytes_of, heap_of}
 use Rattle.mmdb_cmd_enrich.specs.Wanted.{Wanted, AddsOf}
 
 -- nothing is kept
 abbrev pub IsEmptySlot : Slot → Type 0
-IsEmptySlot slot = (slot.offset ≡ None) × (bytes_of slot.cells ≡ []) × (heap_of slot.cells ≡ 0)
+IsEmptySlot slot = (slot.by ≡ Nothing) × (bytes_of slot.cells ≡ []) × (heap_of slot.cells ≡ 0)
 
 abbrev pub IsKept : Wanted → Slot → Type 0
-IsKept wanted slot = (offset : ℕ) → slot.offset ≡ Some offset → AddsOf wanted offset (bytes_of slot.cells) slot.outcome
+IsKept wanted slot = AddsOf wanted slot.by (bytes_of slot.cells) slot.outcome
 
 abbrev pub IsKeptAt : Wanted → Bucket → Type 0
 IsKeptAt wanted bucket = IsKept wanted bucket.newer × IsKept wanted bucket.older

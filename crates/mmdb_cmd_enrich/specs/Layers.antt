@@ -1,5 +1,5 @@
 -- What several databases have for an address, in their order. One database is a list of one.
-use Rattle.std.specs.Prelude.{◌≡◌, ◌⊎◌, ◌<◌, ◌+◌, ◌*◌, ℕ, List, [], ◌∷◌, length, Option, Some, None, Bool, false, ◌||◌, is_some, ⊤}
+use Rattle.std.specs.Prelude.{◌≡◌, ◌⊎◌, ◌<◌, ◌+◌, ◌*◌, ℕ, List, [], ◌∷◌, length, Option, Some, None, IfSome, Bool, false, ◌||◌, is_some, ⊤}
 use Rattle.std.specs.declared.net.ip_addr.IpAddr.{IpAddr}
 use Rattle.mmdb_format.specs.Unfolding.{Tree}
 use Rattle.mmdb_reader.specs.File.{Database, data_section}
@@ -7,6 +7,7 @@ use Rattle.mmdb_reader.specs.Lookup.{CanAsk, IsInvalidAt, Answers, outcome_at}
 use Rattle.mmdb_reader.specs.declared.path.PathElement.{PathElement}
 use Rattle.mmdb_cmd_enrich.specs.Asked.{Asks}
 use Rattle.mmdb_layout.specs.Reading.{reads_in, or_next}
+use Rattle.mmdb_cmd_enrich.specs.declared.cache.RecordKeys.{RecordKeys}
 
 -- Where a database has the record of an address: at an offset, or nowhere, also where it can't be asked for the address.
 abbrev pub Has : Database → IpAddr → Option ℕ → Type 0
@@ -77,3 +78,28 @@ IsKey (db ∷ dbs) (offset ∷ offsets) key = IsKeyFrom (digit_of offset) dbs of
 -- the number of where the records of an address are
 abbrev pub IsKeyFor : List Database → IpAddr → ℕ → Type 0
 IsKeyFor dbs address key = CanAskAny dbs address × (offsets : List (Option ℕ)) × HaveAll dbs address offsets × IsKey dbs offsets key
+
+-- the number of where the first database has its record
+abbrev pub IsFirstKey : List (Option ℕ) → ℕ → Type 0
+IsFirstKey [] key = ⊥
+IsFirstKey (offset ∷ offsets) key = offset ≡ Some key
+
+-- what records are kept by: where all of them are, and where the first is
+abbrev pub AreKeys : List Database → List (Option ℕ) → RecordKeys → Type 0
+AreKeys dbs offsets keys = IfSome keys.all (IsKey dbs offsets) × IfSome keys.first (IsFirstKey offsets)
+
+-- the same of the records of an address
+abbrev pub AreKeysFor : List Database → IpAddr → RecordKeys → Type 0
+AreKeysFor dbs address keys =
+    ((keys.all ≡ None) × (keys.first ≡ None)) ⊎ (CanAskAny dbs address × (offsets : List (Option ℕ)) × HaveAll dbs address offsets × AreKeys dbs offsets keys)
+
+-- What is read along a path in the first database's record, which has to have a value there.
+abbrev pub value_only : Option (Option Tree) → Option (Option Tree)
+value_only None = None
+value_only (Some None) = None
+value_only (Some (Some v)) = Some (Some v)
+
+abbrev pub read_in_first : List Database → List (Option ℕ) → List PathElement → Option (Option Tree)
+read_in_first [] offsets path = None
+read_in_first (db ∷ dbs) [] path = None
+read_in_first (db ∷ dbs) (offset ∷ offsets) path = value_only (reads_in (data_section db) offset path)

@@ -5,6 +5,7 @@ use Rattle.json.specs.Json.{Members, object}
 use Rattle.mmdb_net.specs.declared.network.IpNetwork.{IpNetwork}
 use Rattle.mmdb_addresses.specs.Addresses.{ReadsAddress}
 use Rattle.mmdb_addresses.specs.declared.readings.Reading.{Reading}
+use Rattle.mmdb_format.specs.Unfolding.{Tree}
 use Rattle.mmdb_reader.specs.File.{Database}
 use Rattle.mmdb_reader.specs.declared.path.PathElement.{PathElement}
 use Rattle.mmdb_filter.specs.Lines.{most_seen}
@@ -103,12 +104,16 @@ IsFrontText (cells rows reading column breaks false paths) shown front = front �
 IsFrontText (cells rows reading column breaks true paths) shown front = IsFront rows shown front
 IsFrontText (member kind long reading path nulls name fields) shown front = front ≡ []
 
--- the text of what is read in the records at these offsets, and how the row fares
+-- the text of what is read along paths, in the first record that has a value there or in each record, and how the row fares
+abbrev pub IsTextOf : Template → (List PathElement → Option (Option Tree)) → (List PathElement → Option (Option Tree)) → Option IpNetwork → List ℕ → Outcome → Type 0
+IsTextOf (cells rows reading column breaks network paths) reads each shown text outcome =
+    AreCells rows reads paths text × (outcome ≡ (if are_read reads paths then Found else Failed))
+IsTextOf (member kind long reading path nulls name fields) reads each shown text outcome =
+    MemberAfter (front_tokens kind shown) (reads_of_kind kind reads each) name fields text outcome
+
+-- the same of the records at these offsets
 abbrev pub IsText : Template → List Database → Option IpNetwork → List (Option ℕ) → List ℕ → Outcome → Type 0
-IsText (cells rows reading column breaks network paths) dbs shown offsets text outcome =
-    AreCells rows (first_read dbs offsets) paths text × (outcome ≡ (if are_read (first_read dbs offsets) paths then Found else Failed))
-IsText (member kind long reading path nulls name fields) dbs shown offsets text outcome =
-    MemberAfter (front_tokens kind shown) (reads_of_kind kind (first_read dbs offsets) (each_read dbs offsets)) name fields text outcome
+IsText template dbs shown offsets text outcome = IsTextOf template (first_read dbs offsets) (each_read dbs offsets) shown text outcome
 
 -- the text where there is no record: empty cells; or, where that is wanted, a member of which everything is null
 abbrev pub IsNoneText : Template → List ℕ → Type 0

@@ -174,7 +174,10 @@ impl Ahead {
             row.number = found.number;
             return;
         }
-        row.address = address_in(reading, text);
         row.number = None;
+        match address_in(reading, text) {
+            Some(address) => row.address = Some(address),
+            None => row.address = None,
+        }
     }
 }

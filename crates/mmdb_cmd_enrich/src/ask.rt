@@ -5,10 +5,11 @@ ghost use Rattle.mmdb_reader.specs.File.{Database};
 ghost use Rattle.mmdb_reader.specs.Many.{IsFoundFor};
 ghost use Rattle.mmdb_cmd_enrich.specs.Ahead.{IsNumberOf};
 ghost use Rattle.mmdb_cmd_enrich.specs.Answered.{IsAnswered};
-ghost use Rattle.mmdb_cmd_enrich.specs.Layers.{IsKeyFor, digit_of};
+ghost use Rattle.mmdb_cmd_enrich.specs.Layers.{AreKeysFor, IsKeyFor};
 
 use crate::asked::asked_of;
-use crate::found::FoundRecords;
+use crate::cache::RecordKeys;
+use crate::found::{FoundRecords, key_of};
 use crate::leaves::{Leaves, look_up_found};
 use crate::notes::{Notes, note_rejected};
 use mmdb_reader::{FoundLeaf, LookupResult, Reader};
@@ -30,7 +31,7 @@ pub trait Ask {
     /// It is known where the walks of these addresses end.
     ghost knows: { Self → Self.Room → List SpecIpAddr → Type 0 };
 
-    /// What `key` leaves is of this address.
+    /// What `keys` leaves is of this address.
     ghost has: { Self → Self.Room → SpecIpAddr → Type 0 };
 
     /// What they had for the address that was asked last.
@@ -48,23 +49,22 @@ pub trait Ask {
         requires { length addresses.now ≤ 64 }
         ensures { knows self.now room.new addresses.now };
 
-    /// The number of where the records of an address are, unless it is too large, none can be asked for it, or one rejects it. The
+    /// The numbers of where the records of an address are; none where none can be asked for it, or one rejects it. The
     /// address may have a number among those of which it is known where their walks end.
-    fn key(
+    fn keys(
         &self,
         room: &mut Self::Room,
         address: &IpAddr,
         number: Option<usize>,
-    ) -> Result<Option<usize>, AllocError>
+    ) -> Result<RecordKeys, AllocError>
         requires { (addresses : List SpecIpAddr) × knows self.now room.old addresses
             × IsNumberOf addresses number address.now }
-        ensures key { IfOk result (λ key.
-            IfSome key (IsKeyFor (databases self.now) address.now)) }
+        ensures keys { IfOk result (AreKeysFor (databases self.now) address.now) }
         ensures has { OnOk result (has self.now room.new address.now) }
         ensures knows { (addresses : List SpecIpAddr) → knows self.now room.old addresses
             → knows self.now room.new addresses };
 
-    /// What they have for the address of which `key` was asked last, or nothing where none can be asked for it or one rejects it.
+    /// What they have for the address of which `keys` was asked last, or nothing where none can be asked for it or one rejects it.
     fn ask(&self, room: &mut Self::Room, address: &IpAddr, number: Option<usize>)
         requires numbered { (addresses : List SpecIpAddr) × knows self.now room.old addresses
             × IsNumberOf addresses number address.now }
@@ -93,17 +93,6 @@ pub struct OneDatabase<'a, S: AsSlice<u8> + Drop> {
 pub struct OneRoom<'a, S: AsSlice<u8> + Drop> {
     leaves: Leaves,
     found: Option<LookupResult<'a, S>>,
-}
-
-// The number of where one record is, unless it is too large.
-#[inline(always)]
-fn key_of(offset: Option<usize>) -> Option<usize>
-    ensures { IfSome result (λ key. key ≡ digit_of offset) }
-{
-    match offset {
-        Some(offset) => offset.checked_add(1),
-        None => Some(0),
-    }
 }
 
 impl<'a, S: AsSlice<u8> + Drop> OneDatabase<'a, S> {
@@ -169,18 +158,20 @@ impl<'a, S: AsSlice<u8> + Drop> Ask for OneDatabase<'a, S> {
     }
 
     #[inline(always)]
-    fn key(
+    fn keys(
         &self,
         room: &mut OneRoom<'a, S>,
         address: &IpAddr,
         number: Option<usize>,
-    ) -> Result<Option<usize>, AllocError> {
-        match address {
-            IpAddr::V4(short) => Ok(self.key_short(*short, room.leaves.at(number))),
-            IpAddr::V6(long) => Ok(self.key_long(*long)),
-        }
+    ) -> Result<RecordKeys, AllocError> {
+        let all = match address {
+            IpAddr::V4(short) => self.key_short(*short, room.leaves.at(number)),
+            IpAddr::V6(long) => self.key_long(*long),
+        };
+        Ok(RecordKeys { all, first: None })
     }
 
+    #[inline(always)]
     fn ask(&self, room: &mut OneRoom<'a, S>, address: &IpAddr, number: Option<usize>) {
         let asked = asked_of(self.reader, *address);
         let leaf = room.leaves.at(number);

@@ -1,8 +1,13 @@
 //! What was added for the last records.
-ghost use Rattle.std.specs.Prelude.{◌≡◌, ◌≤◌, ◌⊎◌, [], ℕ, Some, None, IfOk, IfSome, true, length};
+ghost use Rattle.std.specs.Prelude.{◌≡◌, ◌<◌, ◌≤◌, ◌⊎◌, [], None, IfOk, IfSome, true, length};
 ghost use Rattle.mmdb_cmd_enrich.specs.Kept.{IsEmptySlot, IsKept, AreKept};
 ghost use Rattle.mmdb_cmd_enrich.specs.KeptCells.{bytes_of, heap_of};
-ghost use Rattle.mmdb_cmd_enrich.specs.Wanted.{Wanted, AddsOf};
+ghost use Rattle.std.specs.Prelude.{ℕ, List, Option};
+ghost use Rattle.mmdb_net.specs.declared.network.IpNetwork.{IpNetwork as SpecIpNetwork};
+ghost use Rattle.mmdb_cmd_enrich.specs.Added.{AddsAt};
+ghost use Rattle.mmdb_cmd_enrich.specs.Layers.{AreKeys};
+ghost use Rattle.mmdb_cmd_enrich.specs.Wanted.{Wanted, AddsOf, IsKeptByAll};
+ghost use Rattle.mmdb_cmd_enrich.specs.declared.cache.KeptBy.TheVariants.{Nothing};
 
 use crate::kept_cells::KeptCells;
 use mmdb_cache::Worth;
@@ -23,11 +28,40 @@ const FIRST: u64 = 16_384;
 /// The most bytes of the heap for cells.
 const MOST_HEAP: usize = 8 << 20;
 
+/// The numbers of where records are: of all of them, and of the first database's alone. One that is too large is none.
+#[derive(Clone, Copy)]
+pub struct RecordKeys {
+    pub all: Option<usize>,
+    pub first: Option<usize>,
+}
+
+impl RecordKeys {
+    /// What cells of all of the records are kept by.
+    #[inline(always)]
+    pub(crate) fn by_all(self) -> KeptBy
+        ensures { IsKeptByAll self.all result }
+    {
+        match self.all {
+            Some(number) => KeptBy::All(number),
+            None => KeptBy::Nothing,
+        }
+    }
+}
+
+/// What cells are kept by.
+#[derive(Clone, Copy)]
+pub(crate) enum KeptBy {
+    Nothing,
+    /// The number of records.
+    All(usize),
+    /// That of the first database's record, whichever those of others are.
+    First(usize),
+}
+
 /// The cells of a record.
 #[derive(Drop)]
 pub(crate) struct Slot {
-    /// Where the record is, if one is kept here.
-    offset: Option<usize>,
+    by: KeptBy,
     outcome: Outcome,
     cells: KeptCells,
 }
@@ -80,28 +114,40 @@ impl Model for AddedCache {
     ghost invariant = { λ cache. IsBounded cache.buckets.items cache.heap_left };
 }
 
+// The bucket of a number.
+#[inline(always)]
+fn bucket_of(by: KeptBy) -> usize
+    ensures { result < 65536 }
+{
+    match by {
+        KeptBy::All(number) | KeptBy::First(number) => number % BUCKETS,
+        KeptBy::Nothing => 0,
+    }
+}
+
 impl Slot {
     // Of no record.
     fn empty() -> Slot
-        ensures offset { result.offset ≡ None }
+        ensures by { result.by ≡ Nothing }
         ensures bytes { bytes_of result.cells ≡ [] }
         ensures heap { heap_of result.cells ≡ 0 }
     {
         Slot {
-            offset: None,
+            by: KeptBy::Nothing,
             outcome: Outcome::Absent,
             cells: KeptCells::none(),
         }
     }
 
-    // Whether it keeps the record at an offset.
+    // Whether it keeps the records of a number.
     #[inline(always)]
-    fn is_of(&self, offset: usize) -> bool
-        ensures { result ≡ true → self.now.offset ≡ Some offset }
+    fn is_of(&self, by: KeptBy) -> bool
+        ensures { result ≡ true → self.now.by ≡ by }
     {
-        match self.offset {
-            Some(kept) => kept == offset,
-            None => false,
+        match (self.by, by) {
+            (KeptBy::All(kept), KeptBy::All(number)) => kept == number,
+            (KeptBy::First(kept), KeptBy::First(number)) => kept == number,
+            _ => false,
         }
     }
 }
@@ -126,13 +172,13 @@ impl Bucket {
         self.older = mem::replace(&mut self.newer, slot);
     }
 
-    // The slot that keeps the record at an offset, if one of them does. Both are looked at, so that no guess goes wrong
+    // The slot that keeps the records of a number, if one of them does. Both are looked at, so that no guess goes wrong
     // of which it is.
     #[inline(always)]
-    fn slot_of(&self, offset: usize) -> &Slot
+    fn slot_of(&self, by: KeptBy) -> &Slot
         ensures { (result.now ≡ self.now.newer) ⊎ (result.now ≡ self.now.older) }
     {
-        if self.older.is_of(offset) {
+        if self.older.is_of(by) {
             &self.older
         } else {
             &self.newer
@@ -161,14 +207,14 @@ impl AddedCache {
         })
     }
 
-    /// What is kept of the record at an offset.
+    // What is kept of the records of a number.
     #[inline(always)]
-    pub(crate) fn kept(&self, offset: usize) -> Option<KeptRecord<'_>>
+    fn kept(&self, by: KeptBy) -> Option<KeptRecord<'_>>
         ensures { IfSome result (λ kept. (wanted : Wanted) → AreKept wanted self.now
-            → AddsOf wanted offset kept.cells.now kept.outcome) }
+            → AddsOf wanted by kept.cells.now kept.outcome) }
     {
-        let slot = self.buckets[offset % BUCKETS].slot_of(offset);
-        if !slot.is_of(offset) {
+        let slot = self.buckets[bucket_of(by)].slot_of(by);
+        if !slot.is_of(by) {
             return None;
         }
         Some(KeptRecord {
@@ -177,10 +223,30 @@ impl AddedCache {
         })
     }
 
+    /// What is kept of records, by the number of all or of the first.
+    #[inline(always)]
+    pub(crate) fn kept_of(&self, keys: RecordKeys) -> Option<KeptRecord<'_>>
+        ensures kept { IfSome result (λ kept. (wanted : Wanted) (offsets : List (Option ℕ))
+            → AreKept wanted self.now → AreKeys wanted.databases offsets keys
+            → (shown : Option SpecIpNetwork) → AddsAt wanted.template wanted.databases shown offsets
+            kept.cells.now kept.outcome) }
+        ensures none { keys.all ≡ None → keys.first ≡ None → result ≡ None }
+    {
+        if let Some(first) = keys.first
+            && let Some(kept) = self.kept(KeptBy::First(first))
+        {
+            return Some(kept);
+        }
+        match keys.all {
+            Some(all) => self.kept(KeptBy::All(all)),
+            None => None,
+        }
+    }
+
     // Keeps the cells of a record in the stead of the older one at its bucket, unless they are many or there is no memory.
-    fn put(&mut self, offset: usize, cells: &[u8], outcome: Outcome)
+    fn put(&mut self, by: KeptBy, cells: &[u8], outcome: Outcome)
         ensures { (wanted : Wanted) → AreKept wanted self.old
-            → AddsOf wanted offset cells.now outcome → AreKept wanted self.new }
+            → AddsOf wanted by cells.now outcome → AreKept wanted self.new }
     {
         if cells.len() > MOST_BYTES {
             return;
@@ -188,17 +254,13 @@ impl AddedCache {
         let Ok(cells) = KeptCells::of(self.alloc, cells) else {
             return;
         };
-        let at = offset % BUCKETS;
+        let at = bucket_of(by);
         let left = self.heap_left + self.buckets[at].older.cells.heap();
         if cells.heap() > left {
             return;
         }
         self.heap_left = left - cells.heap();
-        self.buckets[at].put(Slot {
-            offset: Some(offset),
-            outcome,
-            cells,
-        });
+        self.buckets[at].put(Slot { by, outcome, cells });
     }
 
     /// Notes that the cells of records that have a number were found.
@@ -221,22 +283,16 @@ impl AddedCache {
         }
     }
 
-    /// Keeps the cells of records that have a number, as it is asked.
-    pub(crate) fn keep_numbered(
-        &mut self,
-        number: Option<usize>,
-        cells: &[u8],
-        outcome: Outcome,
-        keeping: Keeping,
-    )
+    /// Keeps the cells of records by what they have, as it is asked.
+    pub(crate) fn keep(&mut self, by: KeptBy, cells: &[u8], outcome: Outcome, keeping: Keeping)
         ensures { (wanted : Wanted) → AreKept wanted self.old
-            → IfSome number (λ n. AddsOf wanted n cells.now outcome) → AreKept wanted self.new }
+            → AddsOf wanted by cells.now outcome → AreKept wanted self.new }
     {
-        let Some(number) = number else {
+        if let KeptBy::Nothing = by {
             return;
-        };
+        }
         if self.keeps(keeping) {
-            self.put(number, cells, outcome);
+            self.put(by, cells, outcome);
         }
     }
 }

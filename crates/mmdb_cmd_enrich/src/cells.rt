@@ -296,6 +296,7 @@ pub(crate) fn put_cells<A: ReadAlong>(
 }
 
 /// Adds a delimiter for each path.
+#[inline(always)]
 pub(crate) fn put_blanks(
     rows: Rows,
     paths: &[Vec<PathElement<'_>>],

@@ -3,7 +3,7 @@ ghost use Rattle.std.specs.Prelude.{◌≡◌, ◌++◌, ℕ, List, Option, IfOk
 ghost use Rattle.std.specs.declared.net.ip_addr.IpAddr.{IpAddr as SpecIpAddr};
 ghost use Rattle.mmdb_net.specs.declared.network.IpNetwork.{IpNetwork as SpecIpNetwork};
 ghost use Rattle.mmdb_filter.specs.Lines.{StandsBehind};
-ghost use Rattle.mmdb_filter.specs.declared.counts.Outcome.TheVariants.{Failed, Unreadable};
+ghost use Rattle.mmdb_filter.specs.declared.counts.Outcome.TheVariants.{Failed, Found, Unreadable};
 ghost use Rattle.mmdb_cmd_enrich.specs.Added.{Adds, AddsAt, PutsFor, PutsFound, PutsRecords, PutsRejected, PutsUnread};
 ghost use Rattle.mmdb_cmd_enrich.specs.Ahead.{IsNumberOf, IsNumbered};
 ghost use Rattle.mmdb_cmd_enrich.specs.Layers.{has_record as spec_has_record};
@@ -12,12 +12,13 @@ ghost use Rattle.mmdb_cmd_enrich.specs.Template.{is_kept as spec_is_kept};
 
 use crate::ahead::{AheadAddress, NumberedAddress, RowAddress};
 use crate::ask::Ask;
-use crate::cache::{AddedCache, Keeping};
-use crate::found::FoundRecords;
+use crate::cache::{AddedCache, Keeping, KeptBy};
+use crate::found::{FoundRecords, WholeRecord};
 use crate::memory::{EnrichMemory, KeptTexts};
 use crate::notes::Notes;
 use crate::place::{ReadRow, RowPlace, put_at, put_text};
 use crate::template::Template;
+use mmdb_cache::Worth;
 use mmdb_filter::{Added, Additions, Outcome};
 use mmdb_net::IpNetwork;
 use std::alloc::{AllocError, Global};
@@ -47,6 +48,7 @@ impl<D: Ask, W: Template> Enrichment<D, W> {
             cache: AddedCache::new(self.alloc)?,
             none,
             text: Vec::new(self.alloc),
+            firsts: Worth::new(),
             notes,
         };
         Ok(EnrichMemory {
@@ -91,9 +93,65 @@ impl<D: Ask, W: Template> Enrichment<D, W> {
         }
         let are_read = outcome == Outcome::Found;
         let keeping = texts.notes.keeping(self.what.count(), are_read);
+        texts.cache.keep(
+            found.keys().by_all(),
+            texts.text.as_slice(),
+            outcome,
+            keeping,
+        );
+    }
+
+    // Whether the text of the first database's record alone is made: where all is noted, and that is mostly the text of all records.
+    #[inline(always)]
+    fn tries_first(&self, texts: &mut KeptTexts) -> bool
+        ensures kept { result ≡ true → spec_is_kept (W.template self.now.what) ≡ true }
+        ensures cache { texts.new.cache ≡ texts.old.cache }
+        ensures none { texts.new.none ≡ texts.old.none }
+    {
+        self.what.is_kept() && texts.notes.are_full(self.what.count()) && texts.firsts.keeps()
+    }
+
+    // Adds the text of records where that is the text of the first database's, since it has a value of each field, keeps it for all
+    // records with that one, and says whether it does.
+    fn put_first(
+        &self,
+        place: RowPlace,
+        found: &D::Found,
+        texts: &mut KeptTexts,
+        out: &mut Vec<u8>,
+    ) -> Result<bool, AllocError>
+        requires of { D.Found.is_of found.now (D.databases self.now.from) }
+        requires fits { Remembers (W.template self.now.what) (D.databases self.now.from)
+            texts.old }
+        ensures added { IfOk result (λ is_put. is_put ≡ true → (network : Option SpecIpNetwork)
+            → PutsRecords (W.template self.now.what) (D.databases self.now.from) place network
+            (D.Found.offsets found.now) Found out.old.items out.new.items) }
+        ensures none { IfOk result (λ is_put. is_put ≡ false → out.new.items ≡ out.old.items) }
+        ensures fits { Remembers (W.template self.now.what) (D.databases self.now.from)
+            texts.new }
+    {
+        let (Some(first), Some(number)) = (found.first(), found.keys().first) else {
+            return Ok(false);
+        };
+        if !self.tries_first(texts) {
+            return Ok(false);
+        }
+        texts.text.clear();
+        let whole = WholeRecord { record: first };
+        let outcome = self
+            .what
+            .put_text(self.alloc, &whole, None, &mut texts.text)?;
+        let Outcome::Found = outcome else {
+            return Ok(false);
+        };
+        texts.firsts.find();
+        let keeping = texts.notes.keeping(self.what.count(), true);
+        let text = texts.text.as_slice();
         texts
             .cache
-            .keep_numbered(found.key(), texts.text.as_slice(), outcome, keeping);
+            .keep(KeptBy::First(number), text, Outcome::Found, keeping);
+        put_at(place, text, Outcome::Found, out)?;
+        Ok(true)
     }
 
     // Adds the text of records that was not kept, and keeps it.
@@ -116,6 +174,10 @@ impl<D: Ask, W: Template> Enrichment<D, W> {
         ensures fits { Remembers (W.template self.now.what) (D.databases self.now.from)
             texts.new }
     {
+        let is_put = self.put_first(place, found, texts, out)?;
+        if is_put {
+            return Ok(Outcome::Found);
+        }
         texts.text.clear();
         let outcome = self
             .what
@@ -146,9 +208,12 @@ impl<D: Ask, W: Template> Enrichment<D, W> {
             texts.new }
     {
         let none = texts.none.as_slice();
-        texts
-            .cache
-            .keep_numbered(found.key(), none, Outcome::Absent, Keeping::Always);
+        texts.cache.keep(
+            found.keys().by_all(),
+            none,
+            Outcome::Absent,
+            Keeping::Always,
+        );
         put_text(place, texts.none.as_slice(), Outcome::Absent, out)
     }
 
@@ -195,9 +260,7 @@ impl<D: Ask, W: Template> Enrichment<D, W> {
         ensures fits { Remembers (W.template self.now.what) (D.databases self.now.from)
             texts.new }
     {
-        if let Some(key) = found.key()
-            && let Some(kept) = texts.cache.kept(key)
-        {
+        if let Some(kept) = texts.cache.kept_of(found.keys()) {
             return put_at(place, kept.cells, kept.outcome, out);
         }
         self.put_answer(place, found, network, texts, out)
@@ -229,7 +292,7 @@ impl<D: Ask, W: Template> Enrichment<D, W> {
     }
 
     // Adds what is added to a row without an address.
-    #[inline(never)]
+    #[inline(always)]
     fn put_unread(
         &self,
         place: RowPlace,
@@ -320,10 +383,9 @@ impl<D: Ask, W: Template> Enrichment<D, W> {
             → D.knows self.now.from room.old addresses
             → D.knows self.now.from room.new addresses }
     {
-        let key = self.from.key(room, asked.address, asked.number)?;
+        let keys = self.from.keys(room, asked.address, asked.number)?;
         if !self.what.shows_network()
-            && let Some(key) = key
-            && let Some(kept) = texts.cache.kept(key)
+            && let Some(kept) = texts.cache.kept_of(keys)
         {
             let outcome = put_at(place, kept.cells, kept.outcome, out)?;
             texts.cache.note_found();

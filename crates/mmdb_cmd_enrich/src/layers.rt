@@ -7,14 +7,15 @@ ghost use Rattle.mmdb_reader.specs.File.{Database};
 ghost use Rattle.mmdb_reader.specs.Lookup.{CanAsk};
 ghost use Rattle.mmdb_reader.specs.Many.{IsFoundFor};
 ghost use Rattle.mmdb_cmd_enrich.specs.Ahead.{IsNumberOf, AreFoundIn};
-ghost use Rattle.mmdb_cmd_enrich.specs.Layers.{CanAskAny, CanAskNone, Rejects, AnyRejects, has_record as spec_has_record, IsKey};
+ghost use Rattle.mmdb_cmd_enrich.specs.Layers.{CanAskAny, CanAskNone, Rejects, AnyRejects, has_record as spec_has_record, IsFirstKey, IsKey};
 ghost use Rattle.mmdb_cmd_enrich.specs.Networks.{smaller as spec_smaller, depth_of as spec_depth_of};
 ghost use Rattle.mmdb_cmd_enrich.specs.Records.{answer_read};
 ghost use Rattle.mmdb_cmd_enrich.specs.Working.{IsAnswer, AreAnswers, IsKeyAfter, IsNetworkOf, IsSmallest, IsShownOf, offset_in};
 
 use crate::ask::Ask;
 use crate::asked::asked_of;
-use crate::found::FoundRecords;
+use crate::cache::RecordKeys;
+use crate::found::{FoundRecords, ReadRecords};
 use crate::leaves::{Leaves, look_up_found};
 use crate::notes::{Notes, note_rejected_by};
 use mmdb_layout::ReadAlong;
@@ -177,7 +178,31 @@ fn longer_key<S: AsSlice<u8> + Drop>(
     key?.checked_mul(length.checked_add(1)?)?.checked_add(digit)
 }
 
+// The numbers of where no record is known to be.
+#[inline(always)]
+fn no_keys() -> RecordKeys
+    ensures all { result.all ≡ None }
+    ensures first { result.first ≡ None }
+{
+    RecordKeys {
+        all: None,
+        first: None,
+    }
+}
+
 impl<'a, S: AsSlice<u8> + Drop> Layers<'a, S> {
+    // The number of where the first database has its record.
+    #[inline(always)]
+    fn first_key(&self) -> Option<usize>
+        ensures { IfSome result (IsFirstKey (map offset_in self.now.answers.items)) }
+    {
+        let answers = self.answers.as_slice();
+        if answers.is_empty() {
+            return None;
+        }
+        offset_of(&answers[0])
+    }
+
     /// Whether one of the databases has a record.
     pub(crate) fn has_record(&self) -> bool
         ensures { result ≡ spec_has_record (map offset_in self.now.answers.items) }
@@ -298,37 +323,10 @@ impl<'a, S: AsSlice<u8> + Drop> ReadAlong for Layers<'a, S> {
 }
 
 /// Of several databases.
-impl<'a, S: AsSlice<u8> + Drop> FoundRecords for Layers<'a, S> {
+impl<'a, S: AsSlice<u8> + Drop> ReadRecords for Layers<'a, S> {
     ghost use Rattle.mmdb_cmd_enrich.specs.Records.{each_read_of};
-    ghost use Rattle.mmdb_cmd_enrich.specs.Same.{all_read_first, each_same};
-    ghost use Rattle.mmdb_cmd_enrich.specs.Working.{AreAnswersOf};
-
-    ghost offsets = { λ layers. map offset_in layers.answers.items };
-
-    ghost is_of = { λ layers dbs. AreAnswersOf dbs layers.answers.items
-        × IfSome layers.key (IsKey dbs (map offset_in layers.answers.items)) };
-
-    ghost shows = { λ layers. IsShownOf layers.answers.items };
 
     ghost each = { λ layers. each_read_of layers.answers.items };
-
-    ghost reads_first = { λ layers dbs is. all_read_first dbs layers.answers.items is.0 };
-
-    ghost reads_each = { λ layers dbs is. each_same dbs layers.answers.items is.0 };
-
-    #[inline(always)]
-    fn has_record(&self) -> bool {
-        Layers::has_record(self)
-    }
-
-    #[inline(always)]
-    fn key(&self) -> Option<usize> {
-        self.key
-    }
-
-    fn shown_network(&self) -> Option<IpNetwork> {
-        Layers::shown_network(self)
-    }
 
     fn read_each(
         &self,
@@ -340,6 +338,50 @@ impl<'a, S: AsSlice<u8> + Drop> FoundRecords for Layers<'a, S> {
             [PathElement::Index(number), rest @ ..] => read_numbered(alloc, answers, *number, rest),
             _ => Ok(None),
         }
+    }
+}
+
+/// Of several databases.
+impl<'a, S: AsSlice<u8> + Drop> FoundRecords for Layers<'a, S> {
+    ghost use Rattle.mmdb_cmd_enrich.specs.Same.{all_read_first, each_same};
+    ghost use Rattle.mmdb_cmd_enrich.specs.Working.{AreAnswersOf};
+
+    type Record = LookupResult<'a, S>;
+
+    ghost offsets = { λ layers. map offset_in layers.answers.items };
+
+    ghost is_of = { λ layers dbs. AreAnswersOf dbs layers.answers.items
+        × IfSome layers.key (IsKey dbs (map offset_in layers.answers.items)) };
+
+    ghost shows = { λ layers. IsShownOf layers.answers.items };
+
+    ghost reads_first = { λ layers dbs is. all_read_first dbs layers.answers.items is.0 };
+
+    ghost reads_each = { λ layers dbs is. each_same dbs layers.answers.items is.0 };
+
+    #[inline(always)]
+    fn has_record(&self) -> bool {
+        Layers::has_record(self)
+    }
+
+    #[inline(always)]
+    fn keys(&self) -> RecordKeys {
+        RecordKeys {
+            all: self.key,
+            first: self.first_key(),
+        }
+    }
+
+    fn first(&self) -> Option<&LookupResult<'a, S>> {
+        let answers = self.answers.as_slice();
+        if answers.is_empty() {
+            return None;
+        }
+        answers[0].as_ref()
+    }
+
+    fn shown_network(&self) -> Option<IpNetwork> {
+        Layers::shown_network(self)
     }
 
     fn note_records(&self, notes: &mut Notes) {
@@ -426,22 +468,22 @@ impl<'a, S: AsSlice<u8> + Drop> Ask for Databases<'a, S> {
     }
 
     #[inline(always)]
-    fn key(
+    fn keys(
         &self,
         room: &mut LayersRoom<'a, S>,
         address: &IpAddr,
         number: Option<usize>,
-    ) -> Result<Option<usize>, AllocError> {
+    ) -> Result<RecordKeys, AllocError> {
         room.is_found = false;
         if !can_ask_any(self.readers, *address) {
-            return Ok(None);
+            return Ok(no_keys());
         }
         let leaves = room.leaves.as_slice();
         if !room.layers.look_up(self.readers, *address, number, leaves)? {
-            return Ok(None);
+            return Ok(no_keys());
         }
         room.is_found = true;
-        Ok(room.layers.key)
+        Ok(FoundRecords::keys(&room.layers))
     }
 
     #[inline(always)]

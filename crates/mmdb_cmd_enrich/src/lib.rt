@@ -36,9 +36,10 @@ mod watch;
 
 pub use ahead::{Ahead, RowAddress};
 pub use ask::{Ask, OneDatabase, OneRoom};
+pub use cache::RecordKeys;
 pub use columns::delimiter_of;
 pub use enrichment::Enrichment;
-pub use found::FoundRecords;
+pub use found::{FoundRecords, ReadRecords};
 pub use layers::{Databases, Layers, LayersRoom};
 pub use leaves::Leaves;
 pub use lines::enrich;

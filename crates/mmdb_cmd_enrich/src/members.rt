@@ -6,7 +6,7 @@ ghost use Rattle.mmdb_decode.specs.Errors.{Fails};
 ghost use Rattle.mmdb_format.specs.Error.{MemoryApart};
 ghost use Rattle.mmdb_layout.specs.Reading.{IsReadAs};
 
-use crate::found::FoundRecords;
+use crate::found::ReadRecords;
 use json::{Token, Writer};
 use mmdb_filter::Outcome;
 use mmdb_json::write_value;
@@ -46,7 +46,7 @@ pub(crate) struct MemberForm<'m> {
 
 // The value along a path, in the first record that has one, or in the one whose number the path begins with.
 #[inline(always)]
-fn read_by<'x, A: FoundRecords>(
+fn read_by<'x, A: ReadRecords>(
     alloc: Global,
     kind: MemberKind,
     found: &'x A,
@@ -62,7 +62,7 @@ fn read_by<'x, A: FoundRecords>(
 }
 
 // Writes the value along a path, or null where there is none.
-fn put_value<A: FoundRecords>(
+fn put_value<A: ReadRecords>(
     alloc: Global,
     kind: MemberKind,
     found: &A,
@@ -84,7 +84,7 @@ fn put_value<A: FoundRecords>(
 }
 
 // Writes for each field its name, and the value along its path or null.
-fn put_fields<A: FoundRecords>(
+fn put_fields<A: ReadRecords>(
     alloc: Global,
     kind: MemberKind,
     found: &A,
@@ -142,7 +142,7 @@ fn put_front(
 }
 
 // Writes a member with the fields, after others.
-fn put_member<A: FoundRecords>(
+fn put_member<A: ReadRecords>(
     alloc: Global,
     form: MemberForm<'_>,
     found: &A,
@@ -166,7 +166,7 @@ fn put_member<A: FoundRecords>(
 }
 
 // Writes a member with all that is read.
-fn put_whole<A: FoundRecords>(
+fn put_whole<A: ReadRecords>(
     alloc: Global,
     form: MemberForm<'_>,
     found: &A,
@@ -184,7 +184,7 @@ fn put_whole<A: FoundRecords>(
 }
 
 // Writes a member with the fields after others, or, without a field, with all that is read.
-fn put_values<A: FoundRecords>(
+fn put_values<A: ReadRecords>(
     alloc: Global,
     form: MemberForm<'_>,
     found: &A,
@@ -207,7 +207,7 @@ fn put_values<A: FoundRecords>(
 }
 
 /// Puts the text of a member in place of nothing. It stays so where something of it can't be read.
-pub(crate) fn put_member_text<A: FoundRecords>(
+pub(crate) fn put_member_text<A: ReadRecords>(
     alloc: Global,
     form: MemberForm<'_>,
     found: &A,

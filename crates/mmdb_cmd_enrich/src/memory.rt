@@ -1,6 +1,7 @@
 //! What is remembered from row to row.
 use crate::cache::AddedCache;
 use crate::notes::Notes;
+use mmdb_cache::Worth;
 
 /// Texts that are kept.
 #[derive(Drop)]
@@ -10,6 +11,8 @@ pub struct KeptTexts {
     pub(crate) none: Vec<u8>,
     /// Where the text of records is made.
     pub(crate) text: Vec<u8>,
+    /// Whether it is worth to make the text of the first database's record alone.
+    pub(crate) firsts: Worth,
     /// What is noted of the records that were read.
     pub notes: Notes,
 }

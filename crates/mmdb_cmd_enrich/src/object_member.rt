@@ -5,7 +5,7 @@ ghost use Rattle.mmdb_cmd_enrich.specs.Objects.{IsTooLong};
 ghost use Rattle.mmdb_cmd_enrich.specs.Working.{IsPlaceIn};
 
 use crate::ahead::RowAddress;
-use crate::found::{FoundRecords, note_field};
+use crate::found::{FoundRecords, ReadRecords, note_field};
 use crate::members::{MemberForm, MemberKind, NamedField, null_member, put_member_text};
 use crate::notes::Notes;
 use crate::place::{ReadRow, RowPlace, put_at};
@@ -199,7 +199,7 @@ impl<'f> Template for ObjectMember<'f> {
         Ok(())
     }
 
-    fn put_text<A: FoundRecords>(
+    fn put_text<A: ReadRecords>(
         &self,
         alloc: Global,
         found: &A,

@@ -4,13 +4,12 @@ ghost use Rattle.mmdb_addresses.specs.Addresses.{ReadsAddress};
 ghost use Rattle.mmdb_addresses.specs.Rows.{FindsFirst, FindsLast};
 ghost use Rattle.mmdb_cmd_enrich.specs.Ahead.{IsAhead, IsNumbered, ahead_of};
 ghost use Rattle.mmdb_cmd_enrich.specs.Asked.{ReadsRow, cell_read};
-ghost use Rattle.mmdb_cmd_enrich.specs.Cells.{blanks};
 ghost use Rattle.mmdb_cmd_enrich.specs.Networks.{all_blanks};
 
 use crate::ahead::{Ahead, RowAddress};
 use crate::cells::{put_blanks, put_cells, put_network_cell};
 use crate::columns::delimiter_of;
-use crate::found::{FoundRecords, note_field};
+use crate::found::{FoundRecords, ReadRecords, note_field};
 use crate::notes::Notes;
 use crate::padding::put_missing;
 use crate::parts::part_of;
@@ -97,9 +96,9 @@ impl<'f> RowCells<'f> {
         }
     }
 
-    // Adds empty cells, one for the network too, where these are those of the fields.
-    fn put_all_blanks(&self, none: &[u8], out: &mut Vec<u8>) -> Result<(), AllocError>
-        requires { none.now ≡ blanks self.now.rows (map (λ path. path.items) self.now.paths.items) }
+    // Adds empty cells, one for the network too. They are few, so they are put one by one.
+    #[inline(always)]
+    fn put_all_blanks(&self, out: &mut Vec<u8>) -> Result<(), AllocError>
         ensures { OnOk result (out.new.items ≡ out.old.items
             ++ all_blanks self.now.network self.now.rows
             (map (λ path. path.items) self.now.paths.items)) }
@@ -107,7 +106,7 @@ impl<'f> RowCells<'f> {
         if self.network {
             out.push(delimiter_of(self.rows))?;
         }
-        out.extend_from_slice(none)
+        put_blanks(self.rows, self.paths.as_slice(), out)
     }
 }
 
@@ -206,7 +205,7 @@ impl<'f> Template for RowCells<'f> {
     }
 
     #[inline(always)]
-    fn put_text<A: FoundRecords>(
+    fn put_text<A: ReadRecords>(
         &self,
         alloc: Global,
         found: &A,
@@ -226,20 +225,21 @@ impl<'f> Template for RowCells<'f> {
         Ok(text)
     }
 
-    fn put_rejected(&self, none: &[u8], out: &mut Vec<u8>) -> Result<(), AllocError> {
-        self.put_all_blanks(none, out)
+    fn put_rejected(&self, _none: &[u8], out: &mut Vec<u8>) -> Result<(), AllocError> {
+        self.put_all_blanks(out)
     }
 
+    #[inline(always)]
     fn put_unread(
         &self,
         place: RowPlace,
-        none: &[u8],
+        _none: &[u8],
         out: &mut Vec<u8>,
     ) -> Result<(), AllocError> {
         if place.is_empty {
             return Ok(());
         }
-        self.put_all_blanks(none, out)
+        self.put_all_blanks(out)
     }
 
     fn count(&self) -> usize {

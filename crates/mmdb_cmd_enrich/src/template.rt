@@ -1,14 +1,13 @@
 //! What is added to rows.
 ghost use Rattle.std.specs.Prelude.{◌≡◌, ◌≤◌, [], ℕ, Bool, List, IfOk, OnOk, length};
 ghost use Rattle.std.specs.declared.net.ip_addr.IpAddr.{IpAddr as SpecIpAddr};
-ghost use Rattle.mmdb_reader.specs.File.{Database};
 ghost use Rattle.mmdb_cmd_enrich.specs.Added.{PutsLead, PutsFrontText, PutsRejected, PutsUnread};
 ghost use Rattle.mmdb_cmd_enrich.specs.Ahead.{IsNumbered};
 ghost use Rattle.mmdb_cmd_enrich.specs.declared.place.RowPlace.{RowPlace as SpecRowPlace};
-ghost use Rattle.mmdb_cmd_enrich.specs.Template.{Template as SpecTemplate, IsReadTo, ReadsPlace, IsText, IsNoneText, is_kept as spec_is_kept, most_of, shows_network as spec_shows_network};
+ghost use Rattle.mmdb_cmd_enrich.specs.Template.{Template as SpecTemplate, IsReadTo, ReadsPlace, IsTextOf, IsNoneText, is_kept as spec_is_kept, most_of, shows_network as spec_shows_network};
 
 use crate::ahead::RowAddress;
-use crate::found::FoundRecords;
+use crate::found::{FoundRecords, ReadRecords};
 use crate::notes::Notes;
 use crate::place::{ReadRow, RowPlace};
 use mmdb_filter::Outcome;
@@ -115,7 +114,7 @@ pub trait Template {
             (PutsFrontText (template self.now) network out.old.items out.new.items) };
 
     /// Puts the text of records in place of nothing, and says how the row fares.
-    fn put_text<A: FoundRecords>(
+    fn put_text<A: ReadRecords>(
         &self,
         alloc: Global,
         found: &A,
@@ -123,9 +122,8 @@ pub trait Template {
         text: &mut Vec<u8>,
     ) -> Result<Outcome, AllocError>
         requires { text.old.items ≡ [] }
-        ensures { IfOk result (λ outcome. (dbs : List Database) → A.is_of found.now dbs
-            → IsText (template self.now) dbs network (A.offsets found.now)
-            text.new.items outcome) };
+        ensures { IfOk result (IsTextOf (template self.now) (A.reads found.now)
+            (A.each found.now) network text.new.items) };
 
     /// The text where there is no record.
     fn none_text(&self, alloc: Global) -> Result<Vec<u8>, AllocError>

@@ -1,5 +1,5 @@
 -- What is written of lists.
-use Rattle.std.proofs.Common.{◌≡◌, ◌∙◌, ℕ, ◌-◌, ◌^◌, ◌<◌, Bool, true, false, List, [], ◌∷◌, ◌++◌, nat_eq, if◌then◌else◌, Option, None, Some, Result, Ok, Err, OnOk, IfErr, refl, sym, ap, subst, append_assoc, append-nil, inl, inr, arith}
+use Rattle.std.proofs.Common.{◌≡◌, ◌∙◌, ℕ, ◌-◌, ◌^◌, ◌<◌, Bool, true, false, List, [], ◌∷◌, ◌++◌, map, nat_eq, if◌then◌else◌, Option, None, Some, Result, Ok, Err, OnOk, IfErr, refl, sym, ap, subst, append_assoc, append-nil, inl, inr, arith}
 use Rattle.std.proofs.lemmas.Nat.{pow_pos}
 use Rattle.std.proofs.lemmas.Bool.{false≢true}
 use Rattle.std.specs.List.{flat_map}
@@ -20,11 +20,24 @@ use Rattle.mmdb_blocks.specs.declared.syntax.Action.{Action}
 use Rattle.mmdb_blocks.specs.declared.syntax.Action.TheVariants.{Fill}
 use Rattle.mmdb_blocks.specs.declared.syntax.Syntax.{Syntax}
 use Rattle.mmdb_console.specs.declared.error.ProgramError.{ProgramError}
-use Rattle.mmdb_console.specs.declared.error.ProgramError.TheVariants.{Arguments, Database, Write, Read, NoColumn, LongHeader, OutOfOrder, EmptyList, Memory}
+use Rattle.mmdb_console.specs.declared.error.ProgramError.TheVariants.{Arguments, Database as OfDatabase, Write, Read, NoColumn, LongHeader, OutOfOrder, EmptyList, Memory}
 use Rattle.mmdb_cmd_export.specs.Gathered.{IsListedOf}
-use Rattle.mmdb_cmd_export.specs.Listed.{AreFewestWanted, IsListText, HasAddress, ListFails, IsListOf, may_be_empty_of, ArePushed, PushesListed, EndsList, IsFinished, MayEnd, EndFails, list_result}
-use Rattle.mmdb_query.specs.Taking.{Asked, Runs, Takes}
-use Rattle.mmdb_query.specs.Walks.{Item}
+use Rattle.mmdb_cmd_export.specs.Listed.{AreFewestWanted, IsListText, HasAddress, ListFails, IsListOf, HaveOne, IsListOfFewest, ListOfFewestFails, ComesListed, ComesOfDatabase, asked_of_database, listed_of, may_be_empty_of, ArePushed, PushesListed, EndsList, IsFinished, MayEnd, EndFails, list_result, IsOfList}
+use Rattle.mmdb_layout.specs.Networks.{range_bits, items_in}
+use Rattle.mmdb_layout.specs.declared.condition.Condition.{Condition}
+use Rattle.mmdb_net.specs.declared.network.IpNetwork.{IpNetwork}
+use Rattle.mmdb_reader.specs.Enumeration.{database_walked, items_to_come}
+use Rattle.mmdb_reader.specs.declared.within.Within.{Within}
+use Rattle.std.specs.declared.convert.AsSlice.{Ghosts}
+use Rattle.mmdb_reader.specs.File.{Database, data_section}
+use Rattle.mmdb_reader.specs.Listing.{listed as leaves_listed}
+use Rattle.mmdb_reader.specs.ListingLaws.{RangeWalkLists}
+use Rattle.mmdb_reader.specs.Options.{default_options}
+use Rattle.mmdb_query.specs.Ascending.{HaveAddresses, Ascend, ComeAscending, NetworksAscend, IsRun, IsListedWhole}
+use Rattle.mmdb_query.specs.Had.{Had}
+use Rattle.mmdb_query.specs.Parts.{parts_of, ComesInPart}
+use Rattle.mmdb_query.specs.Taking.{Asked, ArePicked, Runs, Takes}
+use Rattle.mmdb_query.specs.Walks.{Item, item_listed, section_walked, comes_alone}
 use Rattle.mmdb_query.specs.declared.addresses.Addresses.{Addresses as Chosen}
 use Rattle.mmdb_cmd_export.specs.declared.gathering.Adjustment.{Adjustment}
 use Rattle.mmdb_cmd_export.specs.declared.task.ExportTask.{ExportTask}
@@ -434,7 +447,7 @@ module _ (syntax : Syntax) (kinds : Kinds) (chosen : Chosen) (adjustment : Adjus
           h.1,
         )
     fails d task may (Arguments x) same is h = absurd h
-    fails d task may (Database x) same is h = absurd h
+    fails d task may (OfDatabase x) same is h = absurd h
     fails d task may (Read x) same is h = absurd h
     fails d task may (NoColumn x y) same is h = absurd h
     fails d task may LongHeader same is h = absurd h
@@ -467,3 +480,254 @@ list-written comes a syntax kinds old new unread whole (Ok x) before at after st
   Appends-trans before at after takes.text ending takes.written written,
 )
 list-written comes a syntax kinds old new unread whole (Err e) before at after start is takes h = tt
+
+-- ---- a list of networks that ascend
+
+-- there are blocks where there are those that have their addresses
+same-some : (ipv4 ipv6 others more : List Block) → IsJoined ipv4 others → IsJoined ipv6 more → some_of ipv4 ipv6 ≡ some_of others more
+same-some [] [] [] [] of_ipv4 of_ipv6 = refl
+same-some [] [] [] (block ∷ more) of_ipv4 of_ipv6 = absurd ((of_ipv6.covers block.first).1 (inl (begins-within block)))
+same-some [] [] (block ∷ others) more of_ipv4 of_ipv6 = absurd ((of_ipv4.covers block.first).1 (inl (begins-within block)))
+same-some [] (block ∷ ipv6) [] [] of_ipv4 of_ipv6 = absurd ((of_ipv6.covers block.first).0 (inl (begins-within block)))
+same-some [] (block ∷ ipv6) [] (next ∷ more) of_ipv4 of_ipv6 = refl
+same-some [] (block ∷ ipv6) (next ∷ others) more of_ipv4 of_ipv6 = absurd ((of_ipv4.covers next.first).1 (inl (begins-within next)))
+same-some (block ∷ ipv4) ipv6 [] more of_ipv4 of_ipv6 = absurd ((of_ipv4.covers block.first).0 (inl (begins-within block)))
+same-some (block ∷ ipv4) ipv6 (next ∷ others) more of_ipv4 of_ipv6 = refl
+
+joined-itself : (blocks joined : List Block) → IsJoined blocks joined → IsJoined joined joined
+joined-itself blocks joined is = record { covers = λ address. ((λ x. x), (λ x. x)); each = is.each; ascends = is.ascends; apart = is.apart }
+
+abbrev pub LawOfAscending : Asked Listing → Type 0
+LawOfAscending a = (items : List Item) (put : List Had) (unread : ℕ) (old new : Listing) (text : List ℕ) → IsRun a items put unread old text new → IsListedWhole put old text new
+
+-- networks have an address where there are blocks of them
+some-put : (kinds : Kinds) (put : List Had) (ipv4 ipv6 : List Block) → HaveAddresses kinds Ipv4 put ipv4 → HaveAddresses kinds Ipv6 put ipv6 → IsJoined ipv4 ipv4 → IsJoined ipv6 ipv6
+    → some_of ipv4 ipv6 ≡ true → HaveOne kinds put
+some-put kinds put [] [] exact_ipv4 exact_ipv6 of_ipv4 of_ipv6 e = absurd (false≢true e)
+some-put kinds put [] (block ∷ ipv6) exact_ipv4 exact_ipv6 of_ipv4 of_ipv6 e =
+    let small : block.first < 2 ^ 128 = of_ipv6.each.0.first in
+    let there = (exact_ipv6 block.first small).0 (inl (begins-within block)) in (Ipv6, block.first, there.0, small, there.1)
+some-put kinds put (block ∷ ipv4) ipv6 exact_ipv4 exact_ipv6 of_ipv4 of_ipv6 e =
+    let small : block.first < 2 ^ 128 = of_ipv4.each.0.first in
+    let there = (exact_ipv4 block.first small).0 (inl (begins-within block)) in (Ipv4, block.first, there.0, small, there.1)
+
+none-put : (kinds : Kinds) (put : List Had) → HaveAddresses kinds Ipv4 put [] → HaveAddresses kinds Ipv6 put [] → ¬ HaveOne kinds put
+none-put kinds put exact_ipv4 exact_ipv6 (Ipv4, address, wanted, small, is) = (exact_ipv4 address small).1 (wanted, is)
+none-put kinds put exact_ipv4 exact_ipv6 (Ipv6, address, wanted, small, is) = (exact_ipv6 address small).1 (wanted, is)
+
+module _ (comes : List Item → Type 0) (a : Asked Listing) (syntax : Syntax) (kinds : Kinds) (new : Listing) where
+  -- what was printed before all networks
+  fewest-begun : (put : List Had) (text : List ℕ) (w : IsListedWhole put (no_networks syntax kinds Fill) text new)
+      → (finished_page new).has_begun ≡ some_of w.whole.fewest_ipv4 w.whole.fewest_ipv6
+  fewest-begun put text w =
+      let o = w.in_order in
+      has-begun syntax kinds o.ipv4 o.ipv6 o.mid new o.first o.second o.ipv4_pushed o.ipv6_pushed
+      ∙ same-some o.ipv4 o.ipv6 w.whole.fewest_ipv4 w.whole.fewest_ipv6 w.whole.ipv4_joined w.whole.ipv6_joined
+
+  fewest-setup : (put : List Had) (text : List ℕ) → IsListedWhole put (no_networks syntax kinds Fill) text new → setup (finished_page new) ≡ (syntax, kinds, Fill)
+  fewest-setup put text w =
+      let o = w.in_order in
+      rest-same new.page new.kind new.waiting ∙ all-same Ipv6 o.ipv6 o.mid o.second new o.ipv6_pushed ∙ all-same Ipv4 o.ipv4 (no_networks syntax kinds Fill) o.first o.mid o.ipv4_pushed
+
+  -- what was printed of networks, and what ends the list
+  fewest-text : (put : List Had) (text all ending : List ℕ) → all ≡ finished_text new ++ beginning_left (finished_page new) ++ ending → (w : IsListedWhole put (no_networks syntax kinds Fill) text new)
+      → text ++ all ≡ beginning_of syntax kinds ++ kind_text syntax Ipv4 Fill w.whole.fewest_ipv4 ++ kind_text syntax Ipv6 Fill w.whole.fewest_ipv6 ++ ending
+  fewest-text put text all ending is w =
+      let ipv4 : List Block = w.whole.fewest_ipv4 in
+      let ipv6 : List Block = w.whole.fewest_ipv6 in
+      let rest : List ℕ = finished_text new in
+      let left : List ℕ = beginning_left (finished_page new) in
+      let same_left : left ≡ (if some_of ipv4 ipv6 then [] else beginning_of syntax kinds) =
+      begun-left (finished_page new) (some_of ipv4 ipv6) (fewest-begun put text w)
+      ∙ ap (λ (s : Syntax × Kinds × Action). if some_of ipv4 ipv6 then [] else beginning_of s.0 s.1) (fewest-setup put text w) in
+      ap (λ (t : List ℕ). text ++ t) is ∙ sym (append_assoc text (rest ++ left) ending)
+      ∙ ap (λ (t : List ℕ). t ++ ending) (sym (append_assoc text rest left) ∙ with-beginning syntax kinds ipv4 ipv6 (text ++ rest) left w.whole.text_is same_left)
+
+  ipv4-fewest : (put : List Had) (text : List ℕ) (w : IsListedWhole put (no_networks syntax kinds Fill) text new) → IsJoined w.whole.fewest_ipv4 w.whole.fewest_ipv4
+  ipv4-fewest put text w = joined-itself w.in_order.ipv4 w.whole.fewest_ipv4 w.whole.ipv4_joined
+
+  ipv6-fewest : (put : List Had) (text : List ℕ) (w : IsListedWhole put (no_networks syntax kinds Fill) text new) → IsJoined w.whole.fewest_ipv6 w.whole.fewest_ipv6
+  ipv6-fewest put text w = joined-itself w.in_order.ipv6 w.whole.fewest_ipv6 w.whole.ipv6_joined
+
+  fewest-some : (put : List Had) (text : List ℕ) (may : Bool) → IsListedWhole put (no_networks syntax kinds Fill) text new → MayEnd new may → may ≡ false → HaveOne kinds put
+  fewest-some put text may w (inl allowed) not_allowed = absurd (false≢true (sym not_allowed ∙ allowed))
+  fewest-some put text may w (inr begun) not_allowed =
+      some-put kinds put w.whole.fewest_ipv4 w.whole.fewest_ipv6 w.ipv4_exact w.ipv6_exact (ipv4-fewest put text w) (ipv6-fewest put text w) (sym (fewest-begun put text w) ∙ begun)
+
+  -- without blocks nothing was printed
+  none-printed : (put : List Had) (ipv4 ipv6 : List Block) (text : List ℕ) → HaveAddresses kinds Ipv4 put ipv4 → HaveAddresses kinds Ipv6 put ipv6 → some_of ipv4 ipv6 ≡ false
+      → text ≡ list_text (no_networks syntax kinds Fill).page ipv4 ipv6 → ¬ HaveOne kinds put × (text ≡ [])
+  none-printed put [] [] text exact_ipv4 exact_ipv6 e is = (none-put kinds put exact_ipv4 exact_ipv6, is)
+  none-printed put [] (block ∷ ipv6) text exact_ipv4 exact_ipv6 e is = absurd (false≢true (sym e))
+  none-printed put (block ∷ ipv4) ipv6 text exact_ipv4 exact_ipv6 e is = absurd (false≢true (sym e))
+
+  module _ (old : Listing) (unread : ℕ) (before at : Option (List ℕ)) (start : old ≡ no_networks syntax kinds Fill) (law : LawOfAscending a) (takes : Takes comes a old new before at unread) where
+    listed-whole : ComeAscending comes → IsListedWhole takes.put (no_networks syntax kinds Fill) takes.text new
+    listed-whole ascending = law takes.items takes.put unread (no_networks syntax kinds Fill) new takes.text (record {
+      ascend = ascending takes.items takes.come;
+      picked = takes.picked;
+      ran = subst (λ (l : Listing). Runs a.puts takes.put l takes.text new) start takes.ran;
+      none_at_hand = refl;
+      none_waits = refl;
+      none_written = refl;
+    })
+
+    pub list-of-fewest : (whole may : Bool) (r : Result (Unit {0}) ProgramError) (after : Option (List ℕ)) → whole ≡ nat_eq unread 0 → OnOk r (Prints (IsFinished new whole) at after)
+        → OnOk r (MayEnd new may) → OnOk r (ComeAscending comes → Prints (IsListOfFewest comes a syntax kinds may) before after)
+    list-of-fewest whole may (Ok x) after is (all, (ending, closes, e), written) may_end = λ ascending.
+        let w = listed-whole ascending in
+        let closed : EndsList whole (no_networks syntax kinds Fill).page ending = ends-list whole (finished_page new) syntax kinds ending (fewest-setup takes.put takes.text w) closes in (
+          takes.text ++ all,
+          record {
+            items = takes.items;
+            put = takes.put;
+            unread = unread;
+            ipv4 = w.whole.fewest_ipv4;
+            ipv6 = w.whole.fewest_ipv6;
+            ending = ending;
+            come = takes.come;
+            picked = takes.picked;
+            ipv4_exact = w.ipv4_exact;
+            ipv6_exact = w.ipv6_exact;
+            ipv4_fewest = ipv4-fewest takes.put takes.text w;
+            ipv6_fewest = ipv6-fewest takes.put takes.text w;
+            ends = subst (λ (b : Bool). EndsList b (no_networks syntax kinds Fill).page ending) is closed;
+            text_is = fewest-text takes.put takes.text all ending e w;
+            not_empty = fewest-some takes.put takes.text may w may_end;
+          },
+          Appends-trans before at after takes.text all takes.written written,
+        )
+    list-of-fewest whole may (Err e) after is h may_end = tt
+
+    empty-list : (may : Bool) (after : Option (List ℕ)) → EndFails new may at after EmptyList → ComeAscending comes → ListOfFewestFails comes a kinds may before after EmptyList
+    empty-list may after (not_allowed, not_begun, later) ascending =
+        let w = listed-whole ascending in
+        let none = none-printed takes.put w.whole.fewest_ipv4 w.whole.fewest_ipv6 (takes.text ++ finished_text new) w.ipv4_exact w.ipv6_exact
+        (sym (fewest-begun takes.put takes.text w) ∙ not_begun) w.whole.text_is in (
+          not_allowed,
+          record { items = takes.items; put = takes.put; unread = unread; come = takes.come; picked = takes.picked; none = none.0 },
+          subst (λ (t : List ℕ). Appends before after t) none.1 (Appends-trans before at after takes.text (finished_text new) takes.written later),
+        )
+
+    end-fails : (may : Bool) (after : Option (List ℕ)) (e : ProgramError) → EndFails new may at after e → ComeAscending comes → ListOfFewestFails comes a kinds may before after e
+    end-fails may after EmptyList h = empty-list may after h
+    end-fails may after Memory h = λ ascending. tt
+    end-fails may after (Write e) h = λ ascending. tt
+    end-fails may after OutOfOrder h = absurd h
+    end-fails may after (Arguments x) h = absurd h
+    end-fails may after (OfDatabase x) h = absurd h
+    end-fails may after (Read x) h = absurd h
+    end-fails may after (NoColumn x y) h = absurd h
+    end-fails may after LongHeader h = absurd h
+
+    pub fewest-fails : (may : Bool) (r : Result (Unit {0}) ProgramError) (after : Option (List ℕ)) → IfErr r (EndFails new may at after)
+        → IfErr r (λ e. ComeAscending comes → ListOfFewestFails comes a kinds may before after e)
+    fewest-fails may (Ok x) after h = tt
+    fewest-fails may (Err e) after h = end-fails may after e h
+
+-- an error of a query is one of these
+pub query-fails : (comes : List Item → Type 0) (a : Asked Listing) (kinds : Kinds) (may : Bool) (before after : Option (List ℕ)) (e : ProgramError) → IsOfList e
+    → ListOfFewestFails comes a kinds may before after e
+query-fails comes a kinds may before after OutOfOrder is = tt
+query-fails comes a kinds may before after Memory is = tt
+query-fails comes a kinds may before after (Write e) is = tt
+query-fails comes a kinds may before after EmptyList is = absurd is
+query-fails comes a kinds may before after (Arguments x) is = absurd is
+query-fails comes a kinds may before after (OfDatabase x) is = absurd is
+query-fails comes a kinds may before after (Read x) is = absurd is
+query-fails comes a kinds may before after (NoColumn x y) is = absurd is
+query-fails comes a kinds may before after LongHeader is = absurd is
+
+-- ---- one database
+
+-- a walk that hands out what is listed of a range of a database
+pub record IsOfDatabase (db : Database) (range : Option IpNetwork) (comes : List Item → Type 0) (s : List (List ℕ)) : Type 0 where
+  pub ascend : NetworksAscend
+  pub lists : RangeWalkLists
+  pub are : (items : List Item) → comes items → ComesListed db range items
+  pub section : s ≡ data_section db ∷ []
+
+module _ (db : Database) (range : Option IpNetwork) (kinds : Kinds) (comes : List Item → Type 0) (s : List (List ℕ)) (of : IsOfDatabase db range comes s) where
+  come-ascending : ComeAscending (ComesInPart kinds range comes)
+  come-ascending parts (items, come, is) =
+      let bits = range_bits db range in
+      let there = of.ascend db default_options bits (leaves_listed db default_options bits) kinds range (of.lists db default_options bits) in
+      subst Ascend (sym (is ∙ ap (parts_of kinds range) (of.are items come))) there
+
+  come-of : (items : List Item) → ComesInPart kinds range comes items → ComesOfDatabase db range kinds items
+  come-of items (own, come, is) = (own, of.are own come, is)
+
+  module _ (conditions : List Condition) where
+    abbrev of_walk : Asked Listing
+    of_walk = listed_of conditions s
+
+    picked-of : (items : List Item) (put : List Had) (unread : ℕ) → ArePicked of_walk items put unread → ArePicked (asked_of_database conditions db) items put unread
+    picked-of items put unread = subst (λ (t : List (List ℕ)). ArePicked (listed_of conditions t) items put unread) of.section
+
+    pub written-of : (wanted : Kinds) (syntax : Syntax) (may : Bool) (r : Result (Unit {0}) ProgramError) (before after : Option (List ℕ))
+        → OnOk r (ComeAscending (ComesInPart kinds range comes) → Prints (IsListOfFewest (ComesInPart kinds range comes) of_walk syntax wanted may) before after)
+        → OnOk r (Prints (IsListOfFewest (ComesOfDatabase db range kinds) (asked_of_database conditions db) syntax wanted may) before after)
+    written-of wanted syntax may (Err e) before after h = tt
+    written-of wanted syntax may (Ok x) before after h =
+        let w = h come-ascending in
+        let is = w.1 in (
+          w.0,
+          record {
+            items = is.items;
+            put = is.put;
+            unread = is.unread;
+            ipv4 = is.ipv4;
+            ipv6 = is.ipv6;
+            ending = is.ending;
+            come = come-of is.items is.come;
+            picked = picked-of is.items is.put is.unread is.picked;
+            ipv4_exact = is.ipv4_exact;
+            ipv6_exact = is.ipv6_exact;
+            ipv4_fewest = is.ipv4_fewest;
+            ipv6_fewest = is.ipv6_fewest;
+            ends = is.ends;
+            text_is = is.text_is;
+            not_empty = is.not_empty;
+          },
+          w.2,
+        )
+
+    failed-of : (wanted : Kinds) (may : Bool) (before after : Option (List ℕ)) (e : ProgramError)
+        → ListOfFewestFails (ComesInPart kinds range comes) of_walk wanted may before after e
+        → ListOfFewestFails (ComesOfDatabase db range kinds) (asked_of_database conditions db) wanted may before after e
+    failed-of wanted may before after EmptyList (not_allowed, is, none) = (
+      not_allowed,
+      record {
+        items = is.items;
+        put = is.put;
+        unread = is.unread;
+        come = come-of is.items is.come;
+        picked = picked-of is.items is.put is.unread is.picked;
+        none = is.none;
+      },
+      none,
+    )
+    failed-of wanted may before after OutOfOrder h = tt
+    failed-of wanted may before after Memory h = tt
+    failed-of wanted may before after (Write x) h = tt
+    failed-of wanted may before after (Arguments x) h = absurd h
+    failed-of wanted may before after (OfDatabase x) h = h
+    failed-of wanted may before after (Read x) h = absurd h
+    failed-of wanted may before after (NoColumn x y) h = absurd h
+    failed-of wanted may before after LongHeader h = absurd h
+
+    pub fails-of : (wanted : Kinds) (may : Bool) (r : Result (Unit {0}) ProgramError) (before after : Option (List ℕ))
+        → IfErr r (λ e. ComeAscending (ComesInPart kinds range comes) → ListOfFewestFails (ComesInPart kinds range comes) of_walk wanted may before after e)
+        → IfErr r (ListOfFewestFails (ComesOfDatabase db range kinds) (asked_of_database conditions db) wanted may before after)
+    fails-of wanted may (Ok x) before after h = tt
+    fails-of wanted may (Err e) before after h = failed-of wanted may before after e (h come-ascending)
+
+module _ {S : Type 0} {G : Ghosts S ℕ} where
+  pub of-walk : (db : Database) (range : Option IpNetwork) (w : Within S G) → NetworksAscend → RangeWalkLists → database_walked w ≡ db → items_to_come w ≡ items_in db range
+      → IsOfDatabase db range (comes_alone w) (section_walked w)
+  of-walk db range w ascend lists walked listed = record {
+    ascend = ascend;
+    lists = lists;
+    are = λ items come. come ∙ ap (λ (d : Database). map (item_listed d) (items_to_come w)) walked ∙ ap (map (item_listed db)) listed;
+    section = ap (λ (d : Database). data_section d ∷ []) walked;
+  }

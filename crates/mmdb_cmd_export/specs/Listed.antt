@@ -1,5 +1,5 @@
 -- What is written of lists.
-use Rattle.std.specs.Prelude.{◌≡◌, ◌<◌, ◌^◌, ◌⊎◌, ◌↔◌, ◌||◌, Bool, true, false, ℕ, List, [], ◌++◌, Option, Result, Ok, Err, nat_eq}
+use Rattle.std.specs.Prelude.{◌≡◌, ◌<◌, ◌^◌, ◌⊎◌, ◌↔◌, ◌||◌, Bool, true, false, ℕ, List, [], ◌∷◌, ◌++◌, map, Option, Result, Ok, Err, nat_eq}
 use Rattle.std.specs.Io.KnownBytes.{Appends}
 use Rattle.mmdb_blocks.specs.Blocks.{IsIn, IsJoined}
 use Rattle.mmdb_blocks.specs.Kinds.{IsWanted}
@@ -18,16 +18,21 @@ use Rattle.mmdb_blocks.specs.declared.syntax.Action.TheVariants.{Fill}
 use Rattle.mmdb_blocks.specs.declared.syntax.Syntax.{Syntax}
 use Rattle.mmdb_blocks.specs.declared.syntax.Syntax.TheVariants.{Cidr}
 use Rattle.mmdb_console.specs.declared.error.ProgramError.{ProgramError}
-use Rattle.mmdb_console.specs.declared.error.ProgramError.TheVariants.{Write, OutOfOrder, EmptyList, Memory}
+use Rattle.mmdb_console.specs.declared.error.ProgramError.TheVariants.{Database as OfDatabase, Write, OutOfOrder, EmptyList, Memory}
 use Rattle.mmdb_layout.specs.Conditions.{SaysAllMetBy, HasUnreadBy}
+use Rattle.mmdb_layout.specs.Networks.{items_in}
 use Rattle.mmdb_layout.specs.declared.condition.Condition.{Condition}
+use Rattle.mmdb_net.specs.declared.network.IpNetwork.{IpNetwork}
+use Rattle.mmdb_query.specs.Ascending.{IsAddressOf, HaveAddresses}
 use Rattle.mmdb_query.specs.Had.{Had}
 use Rattle.mmdb_query.specs.Listings.{puts_listed, leaves_listed}
+use Rattle.mmdb_query.specs.Parts.{ComesInPart}
 use Rattle.mmdb_query.specs.Reading.{outlines_of}
 use Rattle.mmdb_query.specs.Rows.{nothing}
 use Rattle.mmdb_query.specs.Sets.{needs_nothing}
 use Rattle.mmdb_query.specs.Taking.{Asked, ArePicked, Runs}
-use Rattle.mmdb_query.specs.Walks.{Item}
+use Rattle.mmdb_query.specs.Walks.{Item, item_listed}
+use Rattle.mmdb_reader.specs.File.{Database, data_section}
 use Rattle.mmdb_cmd_export.specs.Gathered.{IsListedOf}
 use Rattle.mmdb_query.specs.declared.addresses.Addresses.{Addresses as Chosen}
 use Rattle.mmdb_cmd_export.specs.declared.gathering.Adjustment.{Adjustment}
@@ -140,6 +145,60 @@ pub record IsListOf (comes : List Item → Type 0) (a : Asked Listing) (syntax :
   pub ran : Runs a.puts put (no_networks syntax kinds Fill) lines list
   pub ended : IsFinished list (nat_eq unread 0) ending
   pub text_is : text ≡ lines ++ ending
+
+-- these networks have an address of a wanted kind
+abbrev pub HaveOne : Kinds → List Had → Type 0
+HaveOne kinds put = (kind : BlockKind) × (address : ℕ) × IsWanted kinds kind × (address < 2 ^ 128) × IsAddressOf kind put address
+
+-- The text of a list of the networks that are put of those that come: what comes before all networks, of each wanted kind the lines
+-- of the fewest blocks that have exactly their addresses, and what ends it, by which it is whole where each could be read. There is
+-- an address, unless the list may be empty.
+pub record IsListOfFewest (comes : List Item → Type 0) (a : Asked Listing) (syntax : Syntax) (kinds : Kinds) (may_be_empty : Bool) (text : List ℕ) : Type 0 where
+  pub items : List Item
+  pub put : List Had
+  pub unread : ℕ
+  pub ipv4 : List Block
+  pub ipv6 : List Block
+  pub ending : List ℕ
+  pub come : comes items
+  pub picked : ArePicked a items put unread
+  pub ipv4_exact : HaveAddresses kinds Ipv4 put ipv4
+  pub ipv6_exact : HaveAddresses kinds Ipv6 put ipv6
+  pub ipv4_fewest : IsJoined ipv4 ipv4
+  pub ipv6_fewest : IsJoined ipv6 ipv6
+  pub ends : EndsList (nat_eq unread 0) (no_networks syntax kinds Fill).page ending
+  pub text_is : text ≡ beginning_of syntax kinds ++ kind_text syntax Ipv4 Fill ipv4 ++ kind_text syntax Ipv6 Fill ipv6 ++ ending
+  pub not_empty : may_be_empty ≡ false → HaveOne kinds put
+
+-- the networks that are put of those that come have no address of a wanted kind
+pub record HasNoneOf (comes : List Item → Type 0) (a : Asked Listing) (kinds : Kinds) : Type 0 where
+  pub items : List Item
+  pub put : List Had
+  pub unread : ℕ
+  pub come : comes items
+  pub picked : ArePicked a items put unread
+  pub none : ¬ HaveOne kinds put
+
+-- Why it is not written. Where it would have no networks, and may not, nothing is written; nor where the database can't be walked.
+abbrev pub ListOfFewestFails : (List Item → Type 0) → Asked Listing → Kinds → Bool → Option (List ℕ) → Option (List ℕ) → ProgramError → Type 0
+ListOfFewestFails comes a kinds may_be_empty before after EmptyList = (may_be_empty ≡ false) × HasNoneOf comes a kinds × Appends before after []
+ListOfFewestFails comes a kinds may_be_empty before after (OfDatabase e) = Appends before after []
+ListOfFewestFails comes a kinds may_be_empty before after OutOfOrder = Unit {0}
+ListOfFewestFails comes a kinds may_be_empty before after Memory = Unit {0}
+ListOfFewestFails comes a kinds may_be_empty before after (Write e) = Unit {0}
+ListOfFewestFails comes a kinds may_be_empty before after _ = ⊥
+
+-- exactly what is listed of a range of a database may come
+abbrev pub ComesListed : Database → Option IpNetwork → List Item → Type 0
+ComesListed db range items = items ≡ map (item_listed db) (items_in db range)
+
+-- of the networks of some kinds of a range of a database, as far as they are in it
+abbrev pub ComesOfDatabase : Database → Option IpNetwork → Kinds → List Item → Type 0
+ComesOfDatabase db range kinds = ComesInPart kinds range (ComesListed db range)
+
+-- what is asked of the records of a database
+abbrev pub asked_of_database : List Condition → Database → Asked Listing
+asked_of_database conditions db = listed_of conditions (data_section db ∷ [])
 
 -- ---- errors
 

@@ -8,7 +8,7 @@ ghost use Rattle.mmdb_cmd_export.specs.Gathered.{IsMapped, IsListedOf, gathered_
 ghost use Rattle.mmdb_cmd_export.specs.Listed.{ranges_error};
 
 use crate::missing::are_values_met;
-use crate::reports::{AskedOfRecords, Reports};
+use crate::reports::{AskedOfRecords, Reports, apart};
 use crate::rows::of_query;
 use crate::several::Several;
 use crate::task::ExportTask;
@@ -143,6 +143,14 @@ pub(crate) struct Listed<'x, 'd> {
 }
 
 impl<'x, 'd> Listed<'x, 'd> {
+    /// What is asked of the records: the conditions alone.
+    pub(crate) fn asked(&self) -> AskedOfRecords<'x> {
+        AskedOfRecords {
+            conditions: self.task.conditions.as_slice(),
+            columns: &[],
+        }
+    }
+
     // Gathers the addresses of the chosen networks of a walk: exactly these, of which so many can't be read.
     fn gather_along<W: Walk + Drop, E: Pace>(
         &self,
@@ -189,19 +197,11 @@ impl<'x, 'd> Listed<'x, 'd> {
         &self,
         console: &mut Console<'_, O, E>,
     ) -> Result<Gathered, ProgramError> {
-        let asked = AskedOfRecords {
-            conditions: self.task.conditions.as_slice(),
-            columns: &[],
-        };
+        let alloc = console.alloc;
         let mut nowhere = io::sink();
-        let errors = Console::new(
-            console.alloc,
-            console.terminals,
-            &mut nowhere,
-            &mut *console.errors,
-        );
-        let mut reports = Reports::new(errors, self.several, asked)?;
-        let chosen = self.gather_all(console.alloc, &mut reports);
+        let (_, errors) = apart(console, &mut nowhere);
+        let mut reports = Reports::new(errors, self.several, self.asked())?;
+        let chosen = self.gather_all(alloc, &mut reports);
         reports.clear_progress();
         Ok(Gathered {
             chosen: chosen?,

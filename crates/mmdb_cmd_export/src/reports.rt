@@ -82,6 +82,24 @@ impl AskedOfRecords<'_> {
     }
 }
 
+/// The output of a console, and one for its errors alone, whose own output is nowhere.
+pub(crate) fn apart<'c, O: Write, E: Pace>(
+    console: &'c mut Console<'_, O, E>,
+    nowhere: &'c mut io::Sink,
+) -> (&'c mut O, Console<'c, io::Sink, E>) {
+    let Console {
+        alloc,
+        terminals,
+        out,
+        errors,
+        ..
+    } = console;
+    (
+        &mut **out,
+        Console::new(*alloc, *terminals, nowhere, &mut **errors),
+    )
+}
+
 /// Reports of networks that can't be written, each once for each database.
 #[derive(Drop)]
 pub(crate) struct Reports<'x, 'd, 'c, E: Pace> {

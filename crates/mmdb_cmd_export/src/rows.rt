@@ -4,11 +4,12 @@ ghost use Rattle.mmdb_reader.specs.File.{data_section};
 ghost use Rattle.mmdb_query.specs.Kept.{RowsFit};
 ghost use Rattle.mmdb_query.specs.Walks.{section_walked};
 ghost use Rattle.mmdb_query_forms.specs.Fitting.{ScratchFits};
+ghost use Rattle.mmdb_cmd_export.specs.Listed.{IsOfList};
 ghost use Rattle.mmdb_cmd_export.specs.Written.{AreWritten, EndRows};
 
 use crate::absent_paths::note_absent_paths;
 use crate::look::{FirstRecords, Look};
-use crate::reports::{AskedOfRecords, Reports, report_faults};
+use crate::reports::{AskedOfRecords, Reports, apart, report_faults};
 use crate::several::Several;
 use crate::task::ExportTask;
 use mmdb_compare::AskedDatabase;
@@ -34,10 +35,12 @@ const MOST_OF_RECORDS: usize = 4 << 20;
 const MOST_NAMED: usize = 10;
 
 /// What a query answered, as the program reports it.
-pub(crate) fn of_query(error: QueryError) -> ProgramError {
+pub(crate) fn of_query(error: QueryError) -> ProgramError
+    ensures { IsOfList result }
+{
     match error {
         QueryError::Memory => ProgramError::Memory,
-        QueryError::Write(error) => ProgramError::Write(error),
+        QueryError::Write(error) => ProgramError::Write(error.to_error()),
         QueryError::TooMany | QueryError::OutOfOrder => ProgramError::OutOfOrder,
     }
 }
@@ -163,14 +166,9 @@ impl<'x, 'd> RowTask<'x, 'd> {
             columns: self.columns.columns.as_slice(),
         };
         let mut nowhere = io::sink();
-        let errors = Console::new(
-            self.alloc,
-            console.terminals,
-            &mut nowhere,
-            &mut *console.errors,
-        );
+        let (out, errors) = apart(console, &mut nowhere);
         let mut reports = Reports::new(errors, self.several, asked)?;
-        let written = self.put_rows(walk, rows, console.out, &mut reports);
+        let written = self.put_rows(walk, rows, out, &mut reports);
         reports.clear_progress();
         match written {
             Ok(_) => Ok(reports.count),

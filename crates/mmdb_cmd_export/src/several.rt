@@ -130,7 +130,9 @@ impl<'d> Several<'d> {
     }
 
     /// The range that was asked for, if one was.
-    pub(crate) fn range(&self) -> Option<IpNetwork> {
+    pub(crate) fn range(&self) -> Option<IpNetwork>
+        ensures { result ≡ self.now.range }
+    {
         self.range
     }
 

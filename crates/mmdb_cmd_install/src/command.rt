@@ -1,6 +1,9 @@
 //! A MaxMind DB file that takes another one's place.
-ghost use Rattle.std.specs.Prelude.{IfOk, IfSome};
+ghost use Rattle.std.specs.Prelude.{◌≡◌, IfOk, IfSome, OnOk};
+ghost use Rattle.std.specs.Io.KnownBytes.{Appends};
+ghost use Rattle.mmdb_reader.specs.Source.{IsDatabaseOf};
 ghost use Rattle.mmdb_reader.specs.Whole.{IsWhole, HasReadableRecords};
+ghost use Rattle.mmdb_cmd_install.specs.Fit.{IsFit};
 
 use crate::change::{Share, change_between};
 use crate::percent::{Percent, percent_of};
@@ -292,7 +295,9 @@ fn decide_by_bytes<O: Write, E: Write>(
     new: &Reader<&[u8]>,
     bytes: &[u8],
     console: &mut Console<'_, O, E>,
-) -> Result<Decision, ProgramError> {
+) -> Result<Decision, ProgramError>
+    ensures same { IfOk result (λ decision. decision ≡ Decision.Keep → old_bytes.now ≡ bytes.now) }
+{
     if old_bytes == bytes {
         return Ok(Decision::Keep);
     }
@@ -379,14 +384,24 @@ fn say_dry<O: Write, E: Write>(
     DONE
 }
 
+// Writes all of the bytes.
+fn write_fit<W: Write>(bytes: &[u8], out: &mut W) -> io::Result<()>
+    requires { IsFit bytes.now }
+    ensures { OnOk result (Appends (W.contents out.old) (W.contents out.new) bytes.now) }
+{
+    out.write_all(bytes)
+}
+
 // Writes the bytes to a file, and gives it the place of the one that is there.
 fn put_in_place<R: SharedFiles>(
     rt: &R,
     pending: PendingFile<R>,
     bytes: &[u8],
-) -> Result<(), ReplaceError> {
+) -> Result<(), ReplaceError>
+    requires { IsFit bytes.now }
+{
     let mut pending = pending;
-    match pending.write_all(bytes) {
+    match write_fit(bytes, &mut pending) {
         Ok(()) => pending.take_place(rt),
         Err(error) => {
             pending.remove(rt);
@@ -402,7 +417,9 @@ fn put<R: SharedFiles, O: Write, E: Write>(
     pending: PendingFile<R>,
     bytes: &[u8],
     console: &mut Console<'_, O, E>,
-) -> Result<u8, ProgramError> {
+) -> Result<u8, ProgramError>
+    requires { IsFit bytes.now }
+{
     let (new, dest, count) = (task.new, task.dest, bytes.len());
     note_remarks(task.dest, &pending, console);
     match put_in_place(rt, pending, bytes) {
@@ -439,7 +456,9 @@ fn install_locked<R: SharedFiles, O: Write, E: Write>(
     new: &Reader<&[u8]>,
     bytes: &[u8],
     console: &mut Console<'_, O, E>,
-) -> Result<u8, ProgramError> {
+) -> Result<u8, ProgramError>
+    requires { IsFit bytes.now }
+{
     match decide(rt, task, new, bytes, console) {
         Ok(Decision::Replace) => put(rt, task, pending, bytes, console),
         Ok(Decision::Keep) => {
@@ -464,7 +483,9 @@ fn install_verified<R: SharedFiles + Clock, O: Write, E: Write>(
     new: &Reader<&[u8]>,
     bytes: &[u8],
     console: &mut Console<'_, O, E>,
-) -> Result<u8, ProgramError> {
+) -> Result<u8, ProgramError>
+    requires { IsFit bytes.now }
+{
     if let Some(text) = text_against_new(rt, console.alloc, task, new.metadata())? {
         console.report(task.new, &text);
         return Ok(FAILED);
@@ -489,20 +510,40 @@ fn read_all(alloc: Global, database: &Reader<&[u8]>) -> Result<(), MaxMindDbErro
     }
 }
 
-// The database of bytes, verified; none where it is not whole, or a record can't be read, which is reported.
+// A database, verified; none where it is not whole, or a record can't be read, which is reported.
 fn verified<'b, O: Write, E: Write>(
+    file: &str,
+    database: Reader<&'b [u8]>,
+    console: &mut Console<'_, O, E>,
+) -> Option<Reader<&'b [u8]>>
+    ensures same { IfSome result (λ verified. verified ≡ database.entry) }
+    ensures whole { IfSome result (λ verified. IsWhole verified) }
+    ensures readable { IfSome result (λ verified. HasReadableRecords verified) }
+{
+    match read_all(console.alloc, &database) {
+        Ok(()) => Some(database),
+        Err(error) => {
+            drop(database);
+            report_reason(file, &error, console);
+            None
+        }
+    }
+}
+
+// The database of bytes, verified; none where they are none, or it is not fit, which is reported.
+fn database_of<'b, O: Write, E: Write>(
     file: &str,
     bytes: &'b [u8],
     console: &mut Console<'_, O, E>,
 ) -> Option<Reader<&'b [u8]>>
+    ensures database { IfSome result (λ database. IsDatabaseOf bytes.now database) }
     ensures whole { IfSome result (λ database. IsWhole database) }
     ensures readable { IfSome result (λ database. HasReadableRecords database) }
 {
-    let reader = reported(file, Reader::from_source(console.alloc, bytes), console)?;
-    match read_all(console.alloc, &reader) {
-        Ok(()) => Some(reader),
+    match Reader::from_source(console.alloc, bytes) {
+        Ok(database) => verified(file, database, console),
         Err(error) => {
-            report_reason(file, &error, console);
+            console.report(file, &error);
             None
         }
     }
@@ -527,7 +568,7 @@ fn install_bytes<R: SharedFiles + Clock, O: Write, E: Write>(
     bytes: &[u8],
     console: &mut Console<'_, O, E>,
 ) -> Result<u8, ProgramError> {
-    match verified(task.new, bytes, console) {
+    match database_of(task.new, bytes, console) {
         Some(new) => {
             let done = install_verified(rt, task, &new, bytes, console);
             drop(new);

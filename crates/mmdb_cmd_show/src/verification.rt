@@ -1,5 +1,5 @@
 //! Whether files are whole and all their records can be read, and whether they are what is expected.
-ghost use Rattle.std.specs.Prelude.{IfOk, IfNone};
+ghost use Rattle.std.specs.Prelude.{◌≡◌, true, false, IfOk, IfNone, IsOkAnd, IsSome};
 ghost use Rattle.mmdb_reader.specs.Whole.{IsWhole, HasReadableRecords};
 
 use json::{Token, Writer};
@@ -171,19 +171,35 @@ fn not_readable(
     }
 }
 
+// Why a database is not whole or, unless records are left out, which of them can't be read, if there are some.
+fn damage_of(
+    alloc: Global,
+    reader: &Reader<Vec<u8>>,
+    task: VerifyTask<'_>,
+    unreadable: &mut Option<u64>,
+) -> Result<Option<String>, AllocError>
+    ensures whole { IfOk result (λ damage. IfNone damage (IsWhole reader.now)) }
+    ensures readable { task.entry.whole ≡ false
+        → IfOk result (λ damage. IfNone damage (HasReadableRecords reader.now)) }
+{
+    if task.whole {
+        return not_whole(alloc, reader);
+    }
+    not_readable(alloc, reader, unreadable)
+}
+
 // What is wrong with a database, if something is.
 fn wrong_with(
     alloc: Global,
     reader: &Reader<Vec<u8>>,
     task: VerifyTask<'_>,
     unreadable: &mut Option<u64>,
-) -> Result<Option<String>, AllocError> {
-    let damage = if task.whole {
-        not_whole(alloc, reader)?
-    } else {
-        not_readable(alloc, reader, unreadable)?
-    };
-    match damage {
+) -> Result<Option<String>, AllocError>
+    ensures whole { IfOk result (λ wrong. IfNone wrong (IsWhole reader.now)) }
+    ensures readable { task.entry.whole ≡ false
+        → IfOk result (λ wrong. IfNone wrong (HasReadableRecords reader.now)) }
+{
+    match damage_of(alloc, reader, task, unreadable)? {
         Some(text) => Ok(Some(text)),
         None => unexpected(alloc, reader.metadata(), task),
     }
@@ -194,7 +210,11 @@ fn verdict_on(
     alloc: Global,
     reader: &Reader<Vec<u8>>,
     task: VerifyTask<'_>,
-) -> Result<Verdict, AllocError> {
+) -> Result<Verdict, AllocError>
+    ensures whole { IfOk result (λ verdict. IfNone verdict.wrong (IsWhole reader.now)) }
+    ensures readable { task.entry.whole ≡ false
+        → IfOk result (λ verdict. IfNone verdict.wrong (HasReadableRecords reader.now)) }
+{
     let metadata = reader.metadata();
     let mut unreadable = None;
     let wrong = wrong_with(alloc, reader, task, &mut unreadable)?;
@@ -208,7 +228,9 @@ fn verdict_on(
 }
 
 // What is found of a file that can't be opened.
-fn verdict_of_error(alloc: Global, error: &MaxMindDbError) -> Result<Verdict, AllocError> {
+fn verdict_of_error(alloc: Global, error: &MaxMindDbError) -> Result<Verdict, AllocError>
+    ensures { IfOk result (λ verdict. IsSome verdict.wrong) }
+{
     Ok(Verdict {
         database_type: None,
         build_epoch: None,
@@ -223,7 +245,11 @@ fn verdict_of(
     alloc: Global,
     got: Result<Database, MaxMindDbError>,
     task: VerifyTask<'_>,
-) -> Result<Verdict, AllocError> {
+) -> Result<Verdict, AllocError>
+    ensures whole { IfOk result (λ verdict. IfNone verdict.wrong (IsOkAnd got IsWhole)) }
+    ensures readable { task.entry.whole ≡ false
+        → IfOk result (λ verdict. IfNone verdict.wrong (IsOkAnd got HasReadableRecords)) }
+{
     match got {
         Ok(reader) => {
             let verdict = verdict_on(alloc, &reader, task);
@@ -329,6 +355,25 @@ fn put_line<O: Write, E: Pace>(
     console.put(line.as_bytes())
 }
 
+// Writes of what was got of a file what is wrong with it, if something is, and answers whether nothing is.
+fn put_verdict<O: Write, E: Pace>(
+    file: &str,
+    got: Result<Database, MaxMindDbError>,
+    task: VerifyTask<'_>,
+    console: &mut Console<'_, O, E>,
+) -> Result<bool, ProgramError>
+    ensures whole { IfOk result (λ is_right. is_right ≡ true → IsOkAnd got IsWhole) }
+    ensures readable { task.entry.whole ≡ false
+        → IfOk result (λ is_right. is_right ≡ true → IsOkAnd got HasReadableRecords) }
+{
+    let verdict = verdict_of(console.alloc, got, task)?;
+    let is_right = verdict.wrong.is_none();
+    let put = put_line(file, &verdict, task, console);
+    drop(verdict);
+    put?;
+    Ok(is_right)
+}
+
 // Writes of a file what is wrong with it, if something is, and answers whether nothing is.
 fn verify_one<R: Files + Env, O: Write, E: Pace>(
     rt: &R,
@@ -337,11 +382,7 @@ fn verify_one<R: Files + Env, O: Write, E: Pace>(
     console: &mut Console<'_, O, E>,
 ) -> Result<bool, ProgramError> {
     let Opened { path, got } = open_found(rt, file, console);
-    let verdict = verdict_of(console.alloc, got, task)?;
-    let is_right = verdict.wrong.is_none();
-    let put = put_line(file, &verdict, task, console);
-    drop(verdict);
-    put?;
+    let is_right = put_verdict(file, got, task, console)?;
     if !is_right {
         note_archive(rt, path_or(&path, file), console);
     }

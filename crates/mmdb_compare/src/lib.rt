@@ -7,7 +7,6 @@ mod equality;
 pub mod laws;
 mod pairs;
 mod place;
-mod shown;
 mod side;
 mod together;
 mod walk;
@@ -15,7 +14,6 @@ mod walk_list;
 
 pub use equality::SideBySide;
 pub use pairs::{KnownPairs, Offsets};
-pub use shown::{ShownPair, ShownPairs};
 pub use side::Side;
 pub use together::{Together, TogetherPart, TogetherStretch};
 pub use walk::UnreadLeaf;

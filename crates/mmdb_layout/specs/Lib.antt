@@ -4,6 +4,7 @@ pub mod Reading
 pub mod Texts
 pub mod Conditions
 pub mod Numbers
+pub mod Networks
 -- What only contracts of private functions and proofs name.
 pub mod Working
 pub mod Digits

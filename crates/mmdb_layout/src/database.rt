@@ -1,6 +1,7 @@
 //! Databases whose bytes are those of a file.
 ghost use Rattle.std.specs.Prelude.{◌≡◌, IfOk};
-ghost use Rattle.mmdb_reader.specs.Enumeration.{database_walked};
+ghost use Rattle.mmdb_reader.specs.Enumeration.{database_walked, items_to_come};
+ghost use Rattle.mmdb_layout.specs.Networks.{items_in};
 
 use mmdb_console::{Console, opened, path_elsewhere};
 use mmdb_reader::{IpNetwork, LookupResult, MaxMindDbError, Reader, Within, WithinOptions};
@@ -94,7 +95,9 @@ pub fn networks_in(
     database: &Database,
     range: Option<IpNetwork>,
 ) -> Result<Networks<'_>, MaxMindDbError>
-    ensures { IfOk result (λ networks. database_walked networks ≡ database.now) }
+    ensures database { IfOk result (λ networks. database_walked networks ≡ database.now) }
+    ensures listed { IfOk result
+        (λ networks. items_to_come networks ≡ items_in database.now range) }
 {
     match range {
         Some(range) => database.within(alloc, range, WithinOptions::default()),

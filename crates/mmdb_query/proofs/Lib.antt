@@ -14,3 +14,5 @@ mod PartLaws
 mod RowLaws
 mod ListingLaws
 mod WholeLaws
+mod AscendLaws
+mod OrderLaws

@@ -1,5 +1,5 @@
 -- What several databases have.
-use Rattle.std.proofs.Common.{◌≡◌, ◌<◌, ◌≤◌, ℕ, ◌+◌, ◌-◌, ◌*◌, ◌^◌, List, [], ◌∷◌, ◌++◌, take, Option, Some, None, IfSome, refl, sym, ap, ◌∙◌, subst, arith}
+use Rattle.std.proofs.Common.{◌≡◌, ◌<◌, ◌≤◌, ℕ, ◌+◌, ◌-◌, ◌*◌, ◌^◌, Bool, true, false, IsTrue, List, [], ◌∷◌, ◌++◌, take, Option, Some, None, IfSome, refl, sym, ap, ◌∙◌, subst, arith}
 use Rattle.mmdb_net.specs.Bits.{bits_of, zero_bits}
 use Rattle.mmdb_blocks.proofs.NetworkLaws.{wide_bits}
 use Rattle.mmdb_query.specs.Keys.{digit_of, radix_of, IsKeyFrom, IsKey}
@@ -34,6 +34,14 @@ from_none (section ∷ sections) (offset ∷ offsets) key is =
 pub key_done : (sections : List (List ℕ)) (offsets : List (Option ℕ)) (key : Option ℕ) → KeyWay sections offsets key [] [] → IfSome key (IsKey sections offsets)
 key_done sections offsets None way = tt
 key_done sections offsets (Some n) way = from_none sections offsets n (way n refl)
+
+-- ---- kinds
+
+pub same_truth : (a b : Bool) → (IsTrue a → IsTrue b) → (IsTrue b → IsTrue a) → a ≡ b
+same_truth true true f g = refl
+same_truth true false f g = sym (f refl)
+same_truth false true f g = g refl
+same_truth false false f g = refl
 
 -- ---- the bits of a block
 

@@ -1,12 +1,19 @@
 -- Why a walk is not done to its end, and what is written then.
 use Rattle.std.specs.Prelude.{◌≡◌, ◌⊎◌, ◌^◌, ◌-◌, ℕ, List, [], ◌∷◌, ◌++◌, length, Option, true}
+use Rattle.std.specs.IoError.{error_kind, raw_os_error}
 use Rattle.std.specs.Io.KnownBytes.{Appends}
+use Rattle.std.specs.declared.io.Error.{Error}
 use Rattle.mmdb_query.specs.Walks.{Item, Goes}
 use Rattle.mmdb_query.specs.Walks.Item.{Found}
 use Rattle.mmdb_query.specs.Had.{Had}
 use Rattle.mmdb_query.specs.Taking.{Asked, ArePicked, Runs}
 use Rattle.mmdb_query.specs.declared.error.QueryError.{QueryError}
+use Rattle.mmdb_query.specs.declared.error.WriteError.{WriteError}
 use Rattle.mmdb_query.specs.declared.error.QueryError.TheVariants.{Memory, Write, TooMany, OutOfOrder}
+
+-- the kind of an output's error, and the system's number of it, if it has one
+abbrev pub write_error : Error → WriteError
+write_error e = record { kind = error_kind e; code = raw_os_error e }
 
 -- the output can't be written, or memory is out
 abbrev pub IsOfOutput : QueryError → Type 0

@@ -13,6 +13,7 @@ pub mod Abreast
 pub mod Ends
 pub mod Parts
 pub mod Listings
+pub mod Ascending
 -- What only contracts of private functions and proofs name.
 pub mod Kept
 pub mod Steps

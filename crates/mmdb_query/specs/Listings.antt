@@ -9,6 +9,7 @@ use Rattle.mmdb_blocks.specs.declared.kind.BlockKind.{BlockKind}
 use Rattle.mmdb_blocks.specs.declared.kind.BlockKind.TheVariants.{Ipv4, Ipv6}
 use Rattle.mmdb_blocks.specs.declared.list.BlocksError.{BlocksError}
 use Rattle.mmdb_blocks.specs.declared.list.BlocksError.TheVariants.{Write as ListWrite, OutOfOrder as ListOutOfOrder, Memory as ListMemory}
+use Rattle.mmdb_query.specs.Ends.{write_error}
 use Rattle.mmdb_query.specs.Had.{Had}
 use Rattle.mmdb_query.specs.declared.error.QueryError.{QueryError}
 use Rattle.mmdb_query.specs.declared.error.QueryError.TheVariants.{Memory, Write, TooMany, OutOfOrder}
@@ -62,7 +63,7 @@ puts_listed form s had old text new = PutsBits had.as_ipv4 had.bits old text new
 
 -- an error of a list, as a query answers it
 abbrev pub of_list : BlocksError → QueryError
-of_list (ListWrite e) = Write e
+of_list (ListWrite e) = Write (write_error e)
 of_list ListOutOfOrder = OutOfOrder
 of_list ListMemory = Memory
 

@@ -1,7 +1,8 @@
 //! Why a walk is not done to its end, and who is told of networks that can't be read.
-ghost use Rattle.std.specs.Prelude.{◌≡◌, IfOk, IfErr, [], false};
+ghost use Rattle.std.specs.Prelude.{◌≡◌, IfOk, IfErr, [], false, Some, MatchOption};
+ghost use Rattle.std.specs.IoError.{error_kind, raw_os_error};
 ghost use Rattle.std.specs.Io.KnownBytes.{Appends};
-ghost use Rattle.mmdb_query.specs.Ends.{IsOfOutput};
+ghost use Rattle.mmdb_query.specs.Ends.{IsOfOutput, write_error};
 ghost use Rattle.mmdb_query.specs.Steps.{is_memory as spec_is_memory};
 
 use crate::answer::Answer;
@@ -9,15 +10,48 @@ use crate::walk::UnreadLeaf;
 use mmdb_blocks::RangesError;
 use mmdb_reader::MaxMindDbError;
 use std::alloc::{AllocError, AllocFailed};
-use std::io::{self, Write};
+use std::io::{self, ErrorKind, Write};
+
+/// Why the output can't be written, in few bytes: a walk hands on what it came to for each network.
+#[derive(Clone, Copy)]
+pub struct WriteError {
+    kind: ErrorKind,
+    /// The system's number of it, if it is of the system.
+    code: Option<i32>,
+}
+
+impl WriteError {
+    /// What a writer said.
+    #[cold]
+    #[inline(never)]
+    pub(crate) fn of(error: io::Error) -> WriteError
+        ensures { result ≡ write_error error }
+    {
+        WriteError {
+            kind: error.kind(),
+            code: error.raw_os_error(),
+        }
+    }
+
+    /// The same error. Of one that is not of the system the text is that of its kind.
+    pub fn to_error(self) -> io::Error
+        ensures code { MatchOption self.code (error_kind result ≡ self.kind)
+            (λ code. raw_os_error result ≡ Some code) }
+    {
+        match self.code {
+            Some(code) => io::Error::from_raw_os_error(code),
+            None => io::Error::from(self.kind),
+        }
+    }
+}
 
 /// Why a walk was not done to its end.
-#[derive(Drop)]
+#[derive(Clone, Copy)]
 pub enum QueryError {
     /// Out of memory.
     Memory,
     /// The output can't be written.
-    Write(io::Error),
+    Write(WriteError),
     /// More networks come than can be counted.
     TooMany,
     /// Blocks of addresses would not ascend.
@@ -85,7 +119,7 @@ fn flush<O: Write>(out: &mut O) -> Result<(), QueryError>
 {
     match out.flush() {
         Ok(()) => Ok(()),
-        Err(error) => Err(QueryError::Write(error)),
+        Err(error) => Err(QueryError::Write(WriteError::of(error))),
     }
 }
 

@@ -26,7 +26,7 @@ pub use addresses::{Addresses, gather, gather_all, gather_part};
 pub use answer::{Answer, NetworkBlock};
 pub use choice::{Choice, Conditions};
 pub use each::put_each;
-pub use error::{Fault, Faults, QueryError};
+pub use error::{Fault, Faults, QueryError, WriteError};
 pub use listing::{Listing, list_part};
 pub use many::Many;
 pub use part::{Clipped, Part};

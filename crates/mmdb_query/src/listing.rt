@@ -14,7 +14,7 @@ ghost use Rattle.mmdb_query.specs.declared.error.QueryError.TheVariants.{Memory}
 use crate::answer::{Answer, NetworkBlock};
 use crate::choice::Conditions;
 use crate::each::put_each;
-use crate::error::{Faults, QueryError};
+use crate::error::{Faults, QueryError, WriteError};
 use crate::part::Part;
 use crate::sink::Sink;
 use crate::walk::Walk;
@@ -37,7 +37,7 @@ fn of_list(error: BlocksError) -> QueryError
     ensures { result ≡ spec_of_list error }
 {
     match error {
-        BlocksError::Write(error) => QueryError::Write(error),
+        BlocksError::Write(error) => QueryError::Write(WriteError::of(error)),
         BlocksError::OutOfOrder => QueryError::OutOfOrder,
         BlocksError::Memory => QueryError::Memory,
     }

@@ -1,14 +1,10 @@
 //! Several databases side by side.
-ghost use Rattle.std.specs.Prelude.{◌≡◌, ◌↔◌, IsTrue, IfOk, IfErr, MatchOption, map, take};
-ghost use Rattle.std.specs.Net.Addr.{is_ipv4};
+ghost use Rattle.std.specs.Prelude.{◌≡◌, ◌↔◌, IsTrue, IfOk, IfErr, MatchOption, map};
 ghost use Rattle.mmdb_format.specs.Error.{OfMemory, kind_of};
-ghost use Rattle.mmdb_net.specs.Bits.{bits_of};
-ghost use Rattle.mmdb_net.specs.Network.{ip_of};
 ghost use Rattle.mmdb_blocks.specs.Blocks.{IsBlock};
 ghost use Rattle.mmdb_reader.specs.File.{data_section};
 ghost use Rattle.mmdb_compare.specs.Listed.{all_of};
 ghost use Rattle.mmdb_compare.specs.Together.{AreBegun, AreOver, IsNextOfAll};
-ghost use Rattle.mmdb_query.specs.Had.{network_bits};
 ghost use Rattle.mmdb_query.specs.Abreast.{IsOfIpv4, offsets_said};
 
 use crate::segment::{DatabaseRecord, Segment};
@@ -56,6 +52,7 @@ impl<'a, S: AsSlice<u8> + Drop> Many<'a, S> {
     }
 
     // The next part.
+    #[inline(always)]
     fn next_part(&mut self) -> Option<TogetherPart>
         ensures next { MatchOption result (AreOver self.old.together self.new.together)
             (IsNextOfAll self.old.together self.new.together) }
@@ -88,10 +85,9 @@ impl<'a, S: AsSlice<u8> + Drop> Many<'a, S> {
     // What the databases have in the last stretch.
     fn segment(&mut self, stretch: TogetherStretch) -> Result<Segment<'a, S>, MaxMindDbError>
         requires { IsBlock stretch.block }
-        ensures kind { IfOk result (λ s. IsTrue (is_ipv4 (ip_of s.network))
+        ensures kind { IfOk result (λ s. IsTrue s.at.is_ipv4
             ↔ IsOfIpv4 stretch.is_ipv4 stretch.block) }
-        ensures bits { IfOk result (λ s. network_bits s.network
-            ≡ take stretch.block.prefix (bits_of 128 stretch.block.first)) }
+        ensures block { IfOk result (λ s. s.at.block ≡ stretch.block) }
         ensures sections { IfOk result (λ s. map (λ r. data_section r.reader.now)
             s.records.items ≡ map (λ d. data_section d.reader.now) self.old.databases.now) }
         ensures offsets { IfOk result (λ s. map (λ r. r.offset) s.records.items

@@ -10,7 +10,7 @@ ghost use Rattle.mmdb_query.specs.Taking.{asks, IsDone, Takes};
 use crate::answer::Answer;
 use crate::choice::Conditions;
 use crate::each::put_each;
-use crate::error::{Faults, QueryError};
+use crate::error::{Faults, QueryError, WriteError};
 use crate::sink::Sink;
 use crate::template::Template;
 use crate::walk::Walk;
@@ -151,7 +151,7 @@ fn write_bytes<O: Write>(bytes: &[u8], out: &mut O) -> Result<(), QueryError>
 {
     match out.write_all(bytes) {
         Ok(()) => Ok(()),
-        Err(error) => Err(QueryError::Write(error)),
+        Err(error) => Err(QueryError::Write(WriteError::of(error))),
     }
 }
 
@@ -163,11 +163,11 @@ fn write_parts<O: Write>(front: &[u8], tail: &[u8], out: &mut O) -> Result<(), Q
 {
     match out.write_all(front) {
         Ok(()) => {}
-        Err(error) => return Err(QueryError::Write(error)),
+        Err(error) => return Err(QueryError::Write(WriteError::of(error))),
     }
     match out.write_all(tail) {
         Ok(()) => Ok(()),
-        Err(error) => Err(QueryError::Write(error)),
+        Err(error) => Err(QueryError::Write(WriteError::of(error))),
     }
 }
 

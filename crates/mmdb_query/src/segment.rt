@@ -11,7 +11,7 @@ ghost use Rattle.mmdb_query.specs.Had.{network_bits};
 ghost use Rattle.mmdb_query.specs.Reading.{reads_in, value_found, outline_found, IsReadAs};
 ghost use Rattle.mmdb_query.specs.Abreast.{IsOfIpv4, IsLonger};
 
-use crate::answer::{Answer, NetworkBlock, block_of};
+use crate::answer::{Answer, NetworkBlock};
 use crate::numbered::network_of;
 use crate::values::{outline_along, value_along};
 use mmdb_blocks::Block;
@@ -120,9 +120,10 @@ pub(crate) fn network_of_block(block: Block, is_ipv4: bool) -> IpNetwork
 /// What several databases have in a block in which each of them has one answer.
 #[derive(Drop)]
 pub struct Segment<'a, S: AsSlice<u8> + Drop> {
-    pub(crate) network: IpNetwork,
+    pub(crate) at: NetworkBlock,
     pub(crate) records: Vec<DatabaseRecord<'a, S>>,
-    ghost masked: { IsMaskedIp (ip_of network) (prefix_of network) (ip_of network) },
+    ghost is_block: { IsBlock at.block },
+    ghost lies_there: { IsTrue at.is_ipv4 → (96 ≤ at.block.prefix) × (at.block.first < 2 ^ 32) },
 }
 
 impl<'a, S: AsSlice<u8> + Drop> Segment<'a, S> {
@@ -133,13 +134,15 @@ impl<'a, S: AsSlice<u8> + Drop> Segment<'a, S> {
         records: Vec<DatabaseRecord<'a, S>>,
     ) -> Segment<'a, S>
         requires { IsBlock block }
-        ensures kind { IsTrue (spec_is_ipv4 (ip_of result.network)) ↔ IsOfIpv4 is_ipv4 block }
-        ensures bits { network_bits result.network
-            ≡ take block.prefix (bits_of 128 block.first) }
+        ensures kind { IsTrue result.at.is_ipv4 ↔ IsOfIpv4 is_ipv4 block }
+        ensures block { result.at.block ≡ block }
         ensures records { result.records.items ≡ records.entry.items }
     {
         Segment {
-            network: network_of_block(block, is_ipv4),
+            at: NetworkBlock {
+                block,
+                is_ipv4: is_of_ipv4(block, is_ipv4),
+            },
             records,
         }
     }
@@ -152,19 +155,19 @@ impl<'a, S: AsSlice<u8> + Drop> Answer for Segment<'a, S> {
     ghost sections = { λ s. sections_of s.records.items };
 
     ghost had = { λ s. record {
-      bits = network_bits s.network;
-      as_ipv4 = spec_is_ipv4 (ip_of s.network);
+      bits = take s.at.block.prefix (bits_of 128 s.at.block.first);
+      as_ipv4 = s.at.is_ipv4;
       offsets = offsets_of s.records.items;
     } };
 
     #[inline(always)]
     fn network(&self) -> IpNetwork {
-        self.network
+        network_of_block(self.at.block, self.at.is_ipv4)
     }
 
     #[inline(always)]
     fn block(&self) -> NetworkBlock {
-        block_of(self.network)
+        self.at
     }
 
     #[inline(always)]

@@ -67,13 +67,11 @@ impl<'de, S: AsSlice<u8> + Drop> Walk for One<'de, S> {
 
     #[inline(always)]
     fn next_item(&mut self) -> Option<Result<LookupResult<'de, S>, MaxMindDbError>> {
-        match self.within.next() {
-            Some(Ok(found)) => {
-                self.last = Some(found);
-                Some(Ok(found))
-            }
-            item => item,
+        let item = self.within.next();
+        if let Some(Ok(found)) = &item {
+            self.last = Some(*found);
         }
+        item
     }
 
     fn unread_leaf(&self) -> UnreadLeaf {

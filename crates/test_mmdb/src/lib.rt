@@ -1,4 +1,4 @@
-//! Tests of the program `mmdb` and of the JSON that it writes.
+//! Tests of the program `mmdb`: its words, what `show`, `info` and `verify` write, and what fails.
 #![tactic(auto)]
 
 #[cfg(test)]

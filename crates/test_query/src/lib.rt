@@ -6,6 +6,8 @@ mod answers;
 #[cfg(test)]
 mod databases;
 #[cfg(test)]
+mod outputs;
+#[cfg(test)]
 mod parts;
 #[cfg(test)]
 mod queries;

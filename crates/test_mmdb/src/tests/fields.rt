@@ -1,8 +1,8 @@
 //! The fields of records that share values by pointers.
-use super::exports::file_of_nodes;
-use super::program::{assert_of, run_of};
 use mmdb_vectors::builder::{Field, changed_file, push_node_24};
 use std::alloc::{AllocError, Global};
+use test_runs::program::{assert_of, run_of};
+use test_runs::trees::file_of_nodes;
 
 /// At 0 the map {"x": "s"}, at 5 {"x": true}, and records: at 10 {"a": the first, "l": [the first, the second]}, at 23 {"a": the
 /// first, "l": [the second]}, at 34 {"a": the second, "l": [the second]}, at 45 {"a": the first, "a": the first}, at 54 a pointer

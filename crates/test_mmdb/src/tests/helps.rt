@@ -1,6 +1,6 @@
 //! Helps, and what a terminal gets.
-use super::program::{assert_of, file_of, run_of, run_over};
 use mmdb_vectors::base::BASE_FILE;
+use test_runs::program::{assert_of, file_of, run_of, run_over};
 
 /// Words that ask for help, and what it has to hold.
 const HELPS: &[(&[&str], &[&str])] = &[

@@ -1,11 +1,10 @@
 //! Runs of the program.
-use super::exports::file_of_nodes;
-use super::lists::{DAMAGED, DATA};
-use super::program::{Run, assert_of, run_of};
 use mmdb_vectors::base::BASE_FILE;
 use mmdb_vectors::builder::{BASE_DATA, BASE_NODE, Changes, Field, changed_file};
 use std::alloc::{AllocError, Global};
 use std::process::Abort;
+use test_runs::program::{Run, assert_of, run_of};
+use test_runs::trees::{DAMAGED, DATA, file_of_nodes};
 
 /// Words, the status, standard output, and what standard error has to hold.
 type Row<'a> = (&'a [&'a str], u8, &'a str, &'a str);

@@ -1,4 +1,3 @@
-use Rattle.std.proofs.Common.{rules}
 use Rattle.mmdb_cmd_enrich.proofs.AheadLaws.{first_found}
 use Rattle.mmdb_cmd_enrich.proofs.layers.next_leaf.Goals as goal
 

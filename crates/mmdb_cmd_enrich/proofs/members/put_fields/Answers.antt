@@ -12,7 +12,7 @@ loop-at-preserved g c = record {
       let fields = c.args.fields.now in
       let at = c.loop-at.at in
       let field = c.index-fields-at.result in
-      let reads = reads_of_kind c.args.kind (g.A.ReadAlong.reads c.args.found.now) (g.A.FoundRecords.each c.args.found.now) in
+      let reads = reads_of_kind c.args.kind (g.A.ReadAlong.reads c.args.found.now) (g.A.ReadRecords.each c.args.found.now) in
       let here : drop at fields ≡ field ∷ drop (at + 1) fields = drop_more fields at field (omega arith) ∙ ap (λ y. y ∷ drop (at + 1) fields) (sym c.index-fields-at.is) in
       let named : c.token.new.self.tokens ≡ c.loop-at.out.tokens ++ key field.name.now ∷ [] = search rules in
       let (value, is, put) = c.in_ok-put_value.ensures.value in
@@ -24,7 +24,7 @@ loop-at-preserved g c = record {
 pub returns-clause-fields : goal.returns-clause-fields
 returns-clause-fields g c =
     let fields = c.args.fields.now in
-    let reads = reads_of_kind c.args.kind (g.A.ReadAlong.reads c.args.found.now) (g.A.FoundRecords.each c.args.found.now) in
+    let reads = reads_of_kind c.args.kind (g.A.ReadAlong.reads c.args.found.now) (g.A.ReadRecords.each c.args.found.now) in
     let none : drop c.loop-at.at fields ≡ [] = drop_all c.loop-at.at fields (omega arith) in
     fields_done reads fields c.args.out.now.tokens c.loop-at.out.tokens (subst (λ l. FieldsWay reads fields l c.args.out.now.tokens c.loop-at.out.tokens) none c.loop-at.invariant.way)
 
@@ -33,7 +33,7 @@ returns-in_err-put_value-clause-rejected g c =
     let fields = c.args.fields.now in
     let at = c.loop-at.at in
     let field = c.index-fields-at.result in
-    let reads = reads_of_kind c.args.kind (g.A.ReadAlong.reads c.args.found.now) (g.A.FoundRecords.each c.args.found.now) in
+    let reads = reads_of_kind c.args.kind (g.A.ReadAlong.reads c.args.found.now) (g.A.ReadRecords.each c.args.found.now) in
     let here : drop at fields ≡ field ∷ drop (at + 1) fields = drop_more fields at field (omega arith) ∙ ap (λ y. y ∷ drop (at + 1) fields) (sym c.index-fields-at.is) in
     let p = err_from_is_err_and c.from_residual-in_err-put_value.result c.from_residual-in_err-put_value.ensures.1 in
     rw (p.1, p.2) (declined c.in_err-put_value.field-0.0 (reads c.as_slice.result.now) (HasUnreadField reads fields) (λ none. rejected_in reads fields at field (drop (at + 1) fields) here (subst (λ path. reads path ≡ None) c.as_slice.ensures.value none)) c.in_err-put_value.ensures.rejected)

@@ -1,4 +1,4 @@
-use Rattle.std.proofs.Common.{rules, ◌≡◌, ◌%◌, ◌<◌, Some, length, slice_index_or, refl, subst, sym}
+use Rattle.std.proofs.Common.{rules, ◌≡◌, ◌<◌, length, slice_index_or, refl, subst, sym}
 use Rattle.mmdb_cmd_enrich.specs.Kept.{IsKept, IsKeptAt, AreKept}
 use Rattle.mmdb_cmd_enrich.proofs.KeptLaws.{one_kept, place_set}
 use Rattle.mmdb_cmd_enrich.proofs.cache.AddedCache.put.Goals as goal
@@ -6,7 +6,7 @@ use Rattle.mmdb_cmd_enrich.proofs.cache.AddedCache.put.Goals as goal
 pub returns : goal.returns
 returns c = λ wanted kept add.
     let buckets = c.self.inside.buckets.items in
-    let at = c.args.offset % 65536 in
+    let at = c.bucket_of-at.result in
     let old = c.index_mut.result.now in
     let new = c.put.new.self in
     let within : at < length buckets = search rules in
@@ -14,7 +14,7 @@ returns c = λ wanted kept add.
     let same : c.args.self.now ≡ buckets = search rules in
     place_set (IsKeptAt wanted) buckets at old new within there
     (λ o. (
-      subst (IsKept wanted) (sym c.put.ensures.newer) (one_kept wanted c.args.offset (record { offset = Some c.args.offset; outcome = c.args.outcome; cells = c.in-Ok.cells }) c.args.cells.now c.args.outcome refl c.in-Ok.ensures refl add),
+      subst (IsKept wanted) (sym c.put.ensures.newer) (one_kept wanted c.args.by (record { by = c.args.by; outcome = c.args.outcome; cells = c.in-Ok.cells }) c.args.cells.now c.args.outcome refl c.in-Ok.ensures refl add),
       subst (IsKept wanted) (sym c.put.ensures.older) o.0,
     ))
     (subst (AreKept wanted) same kept)

@@ -12,6 +12,6 @@ returns-clause-fits g c =
     let adds = c.requires.made (sym c.if-not-is_kept.ensures) in
     let here : (shown : Option IpNetwork) → AddsAt template dbs shown offsets c.as_slice.result.now c.args.outcome = λ shown. subst (λ (t : List ℕ). AddsAt template dbs shown offsets t c.args.outcome) (sym c.as_slice.ensures.value) (adds shown) in
     record {
-      kept = c.keep_numbered.ensures (record { template = template; databases = dbs }) c.requires.fits.kept (added_of_keys template dbs offsets c.key.result c.as_slice.result.now c.args.outcome (c.key.ensures dbs c.requires.of) here);
+      kept = c.keep.ensures (record { template = template; databases = dbs }) c.requires.fits.kept (added_of_keys template dbs offsets c.keys.result.all c.by_all.result c.as_slice.result.now c.args.outcome c.by_all.ensures (c.keys.ensures dbs c.requires.of).0 here);
       none = c.requires.fits.none;
     }

@@ -25,6 +25,6 @@ returns-clause-fits g c =
     let here = subst (IsNoneText template) (sym c.as_slice-none.ensures.value) c.requires.fits.none in
     let adds = absent_added template dbs offsets c.as_slice-none.result.now c.requires.absent here in
     record {
-      kept = c.keep_numbered.ensures (record { template = template; databases = dbs }) c.requires.fits.kept (added_of_keys template dbs offsets c.key.result c.as_slice-none.result.now Absent (c.key.ensures dbs c.requires.of) adds);
+      kept = c.keep.ensures (record { template = template; databases = dbs }) c.requires.fits.kept (added_of_keys template dbs offsets c.keys.result.all c.by_all.result c.as_slice-none.result.now Absent c.by_all.ensures (c.keys.ensures dbs c.requires.of).0 adds);
       none = c.requires.fits.none;
     }

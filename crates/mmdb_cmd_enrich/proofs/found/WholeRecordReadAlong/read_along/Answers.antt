@@ -1,0 +1,4 @@
+use Rattle.mmdb_cmd_enrich.proofs.found.WholeRecordReadAlong.read_along.Goals as goal
+
+pub returns : goal.returns
+returns g c = c.value_of.ensures _ c.read_along.ensures

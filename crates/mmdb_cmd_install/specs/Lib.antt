@@ -1,0 +1,2 @@
+-- What has to be believed: what contracts name.
+pub mod Fit

@@ -1,0 +1,9 @@
+//! What no clause says of lists, rows and differences: worked texts, statuses and errors.
+mod bounds;
+mod diffs;
+mod exports;
+mod faults;
+mod kept_rows;
+mod lists;
+mod several_export;
+mod shared;
