@@ -1,4 +1,5 @@
 //! What no clause says of lists, rows and differences: worked texts, statuses and errors.
+mod asserted;
 mod bounds;
 mod diffs;
 mod exports;

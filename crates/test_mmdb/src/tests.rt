@@ -1,4 +1,5 @@
 //! What no clause says of the program `mmdb`: worked texts, words, statuses and errors.
+mod asserted;
 mod elsewhere;
 mod failures;
 mod fields;

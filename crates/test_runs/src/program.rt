@@ -3,7 +3,6 @@ use mmdb_program::{Io, Terminals, run};
 use mmdb_vectors::file::TestFiles;
 use std::alloc::Global;
 use std::io::{self, Write};
-use std::process::Abort;
 use std::str;
 
 /// Reads enough for each file of a test.
@@ -120,10 +119,4 @@ pub fn run_over(
 /// A run over the file `here.mmdb`, and lines on standard input.
 pub fn run_of(alloc: Global, bytes: &[u8], texts: &[&str], lines: &str) -> Run {
     run_over(alloc, &file_of(bytes), texts, lines, false)
-}
-
-/// Asserts what a run is to have left, and shows the run if it has not.
-pub fn assert_of(rt: &impl Abort, texts: &[&str], run: &Run, holds: bool) {
-    let (status, out, err) = (run.status, run.out(), run.err());
-    assert!(rt; holds, "{texts:?}: {status} {out:?} {err:?}");
 }

@@ -1,7 +1,6 @@
 //! Files of trees that a test makes.
 use mmdb_vectors::builder::{Field, changed_file, nodes_24};
-use std::alloc::Global;
-use std::process::Abort;
+use std::alloc::{AllocError, Global};
 
 /// At 0 the record {"c": {"i": "DE"}, "n": 7}, at 13 {"c": {"i": "AT"}, "n": true}, at 26 {"c": T} with a text that is
 /// not UTF-8, at 31 {"n": "7"}.
@@ -33,13 +32,12 @@ pub const DAMAGED: &[(u32, u32)] = &[
 
 /// A file of these nodes, their count as it is encoded, and data.
 pub fn file_of_nodes(
-    rt: &impl Abort,
     alloc: Global,
     nodes: &[(u32, u32)],
     count: &[u8],
     data: &[u8],
-) -> Vec<u8> {
+) -> Result<Vec<u8>, AllocError> {
     let changes = [(Field::NodeCount, count)];
-    let tree = nodes_24(alloc, nodes).expect(rt, "nodes");
-    changed_file(alloc, tree.as_slice(), data, &changes).expect(rt, "a file")
+    let tree = nodes_24(alloc, nodes)?;
+    changed_file(alloc, tree.as_slice(), data, &changes)
 }

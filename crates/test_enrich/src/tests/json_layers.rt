@@ -3,8 +3,9 @@ use super::layers::{
     CITY, Database, KINDS, MANY, OWN, Row, SIX, TORN, assert_row, file_with, holds_all, many_file,
     run_both,
 };
+use crate::tests::asserted::assert_of;
 use std::alloc::{AllocError, Global};
-use test_runs::program::{assert_of, run_of, run_over, two_files};
+use test_runs::program::{run_of, run_over, two_files};
 
 /// A line of each kind.
 const ALL: &str =

@@ -1,10 +1,11 @@
 //! Rows with fields of two databases of many records, over and over: what is kept of one database's record is shown beside whichever
 //! the other one has.
+use crate::tests::asserted::assert_of;
 use mmdb_vectors::builder::{Field, changed_file, nodes_24};
 use std::alloc::{AllocError, Global};
 use std::process::Abort;
 use test_runs::numbers::Numbers;
-use test_runs::program::{assert_of, run_over, two_files};
+use test_runs::program::{run_over, two_files};
 
 /// How many records a database has: more than are noted.
 const RECORDS: usize = 150;

@@ -1,8 +1,9 @@
 //! Rows with fields of several databases.
+use crate::tests::asserted::assert_of;
 use mmdb_vectors::builder::{Field, changed_file, nodes_24};
 use std::alloc::{AllocError, Global};
 use std::process::Abort;
-use test_runs::program::{Run, assert_of, run_over, two_files};
+use test_runs::program::{Run, run_over, two_files};
 
 /// A database: its nodes, their count as it is encoded, its IP version as it is encoded, and its data.
 pub(super) type Database<'a> = (&'a [(u32, u32)], &'a [u8], &'a [u8], &'a [u8]);

@@ -2,10 +2,11 @@
 use super::layers::{
     ALL, BOTH, CITY, Database, NAMED, OWN, SIX, TORN, file_with, holds_all, run_both,
 };
+use crate::tests::asserted::assert_of;
 use mmdb_vectors::builder::{Field, changed_file, nodes_24};
 use std::alloc::{AllocError, Global};
 use std::process::Abort;
-use test_runs::program::{Run, assert_of, run_of};
+use test_runs::program::{Run, run_of};
 
 /// A database, words after it, standard input, the status, standard output, and what standard error has to hold.
 type Alone<'a> = (

@@ -1,7 +1,8 @@
 //! Numbers in lines of JSON, around the 16 digits that are looked at together.
+use crate::tests::asserted::assert_of;
 use mmdb_vectors::base::BASE_FILE;
 use std::alloc::{AllocError, Global};
-use test_runs::program::{assert_of, run_of};
+use test_runs::program::run_of;
 
 /// Words that ask for a record in lines of JSON.
 const WORDS: &[&str] = &["enrich", "here.mmdb", "--json", "a", "--field", "r="];

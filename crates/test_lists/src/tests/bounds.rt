@@ -1,8 +1,9 @@
 //! Networks chosen by numbers that are greater or less than others, or the same.
 use super::exports::lines_hold;
+use crate::tests::asserted::assert_of;
 use std::alloc::{AllocError, Global};
 use std::process::Abort;
-use test_runs::program::{assert_of, run_of};
+use test_runs::program::run_of;
 use test_runs::trees::file_of_nodes;
 
 /// The values at "n" of sixteen networks of /4: 0, 9, 10 and the greatest numbers of 64 and 128 bits, each of another type; -7; the
@@ -174,7 +175,7 @@ fn nodes_of(alloc: Global, places: &[u32]) -> Result<Vec<(u32, u32)>, AllocError
 fn file_of_values(rt: &impl Abort, alloc: Global) -> Vec<u8> {
     let (data, places) = records_of(alloc).expect(rt, "records");
     let nodes = nodes_of(alloc, places.as_slice()).expect(rt, "nodes");
-    file_of_nodes(rt, alloc, nodes.as_slice(), b"\xC1\x0F", data.as_slice())
+    file_of_nodes(alloc, nodes.as_slice(), b"\xC1\x0F", data.as_slice()).expect(rt, "a file")
 }
 
 // The cells of the last column, without the header.
@@ -241,7 +242,7 @@ const OF_MAP_CUT: &[CutRow<'static>] = &[
 
 #[test]
 fn maps_are_not_read(rt: HostRuntime) {
-    let bytes = file_of_nodes(&rt, rt.alloc(), &[(17, 22)], b"\xC1\x01", MAP_CUT);
+    let bytes = file_of_nodes(rt.alloc(), &[(17, 22)], b"\xC1\x01", MAP_CUT).expect(&rt, "a file");
     for (words, written, message) in OF_MAP_CUT {
         let run = run_of(rt.alloc(), bytes.as_slice(), words, "");
         let holds = run.out() == *written && lines_hold(run.err(), message);

@@ -1,9 +1,10 @@
 //! What changed between two files.
 use super::exports::lines_hold;
+use crate::tests::asserted::assert_of;
 use mmdb_vectors::builder::{Field, changed_file, nodes_24};
 use std::alloc::Global;
 use std::process::Abort;
-use test_runs::program::{Run, assert_of, file_of, run_over, two_files};
+use test_runs::program::{Run, file_of, run_over, two_files};
 use test_runs::trees::{DAMAGED, DATA, WHOLE};
 
 /// DE, AT, none, DE, {"n": "7"}, DE, and DE in one network of /2. Of six nodes: offset o is 22 + o, 6 is none.

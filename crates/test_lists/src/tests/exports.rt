@@ -1,9 +1,10 @@
 //! Networks with what their records have.
+use crate::tests::asserted::assert_of;
 use mmdb_vectors::builder::{BASE_NODE, changed_file};
 use mmdb_vectors::section::section_of;
 use std::alloc::Global;
 use std::process::Abort;
-use test_runs::program::{Run, assert_of, run_of};
+use test_runs::program::{Run, run_of};
 use test_runs::trees::file_of_nodes;
 
 /// The records of the nodes: of three that lead to others, and of the eight networks of /3, where offset o is 23 + o,
@@ -118,7 +119,7 @@ pub(crate) fn is_as_wanted(run: &Run, written: &str, message: &[&str]) -> bool {
 
 #[test]
 fn networks_with_fields(rt: HostRuntime) {
-    let bytes = file_of_nodes(&rt, rt.alloc(), NODES, b"\xC1\x07", DATA);
+    let bytes = file_of_nodes(rt.alloc(), NODES, b"\xC1\x07", DATA).expect(&rt, "a file");
     for (texts, written, message) in ROWS {
         let run = run_of(rt.alloc(), bytes.as_slice(), texts, "");
         assert_of(&rt, texts, &run, is_as_wanted(&run, written, message));
@@ -151,7 +152,9 @@ fn are_long_and_short(text: &str) -> bool {
 fn rows_too_long_to_be_kept(rt: HostRuntime) {
     let data = section_of(rt.alloc(), LONG_AND_SHORT_DATA);
     let nodes = [(1, 2), (19, 5022), (19, 5022)];
-    let bytes = file_of_nodes(&rt, rt.alloc(), &nodes, b"\xC1\x03", data.as_slice());
+    let bytes = file_of_nodes(rt.alloc(), &nodes, b"\xC1\x03", data.as_slice()).expect(
+        &rt, "a file",
+    );
     let texts = ["export", "here.mmdb"];
     let run = run_of(rt.alloc(), bytes.as_slice(), &texts, "");
     let holds = run.status == 0 && are_long_and_short(run.out());

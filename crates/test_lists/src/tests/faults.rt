@@ -2,10 +2,11 @@
 //! written all the same, whichever way it is laid out, and each other one is reported.
 ghost use Rattle.std.specs.Prelude.{◌<◌};
 
+use crate::tests::asserted::assert_of;
 use mmdb_vectors::builder::{Field, changed_file, nodes_24};
 use std::alloc::{AllocError, Global};
 use std::process::Abort;
-use test_runs::program::{Run, assert_of, run_over, two_files};
+use test_runs::program::{Run, run_over, two_files};
 
 /// How many networks there are, each with a record of its own.
 const NETWORKS: u8 = 64;

@@ -1,4 +1,5 @@
 //! Rows of an export that are kept for further networks, beside those of each network alone, which are made.
+use crate::tests::asserted::assert_of;
 use mmdb_program::{Io, run};
 use mmdb_vectors::builder::{Field, changed_file, nodes_24};
 use mmdb_vectors::section::section_of;
@@ -7,7 +8,7 @@ use std::io::ErrorKind;
 use std::net::{Ipv4Addr, Ipv6Addr};
 use std::process::Abort;
 use test_runs::numbers::Numbers;
-use test_runs::program::{Narrow, Run, assert_of, file_of, run_of, terminals, words_with};
+use test_runs::program::{Narrow, Run, file_of, run_of, terminals, words_with};
 
 /// The lengths of the texts that are records. With 27 bytes more, rows of whole records are put in quick steps up to 1,024
 /// bytes, and kept up to 4,096.

@@ -1,9 +1,10 @@
 //! Networks chosen by their records, and lists of the fewest blocks.
 use super::exports::{is_as_wanted, lines_hold};
+use crate::tests::asserted::assert_of;
 use mmdb_vectors::builder::{Field, changed_file, nodes_24};
 use std::alloc::Global;
 use std::process::Abort;
-use test_runs::program::{assert_of, run_of, run_over, two_files};
+use test_runs::program::{run_of, run_over, two_files};
 use test_runs::trees::{DAMAGED, DATA, WHOLE, file_of_nodes};
 
 /// Words, standard output, and what each line of standard error has to hold.
@@ -796,7 +797,7 @@ const LONG_START: &str = "äääääääääääääääääääääääääää
 // What is said of a long line shows its beginning, and of one of 100 characters all.
 #[test]
 fn long_lines_of_files(rt: HostRuntime) {
-    let bytes = file_of_nodes(&rt, rt.alloc(), WHOLE, b"\xC1\x07", DATA);
+    let bytes = file_of_nodes(rt.alloc(), WHOLE, b"\xC1\x07", DATA).expect(&rt, "a file");
     for (option, value) in [("--also", "-"), ("--where", "c.i=@-")] {
         for (line, behind) in [(LONG_LINE, ".."), (LONG_START, "")] {
             let words = ["export", "here.mmdb", "--format", "pf", option, value];
@@ -814,7 +815,7 @@ fn long_lines_of_files(rt: HostRuntime) {
 // The line of a file of values is named that is not UTF-8.
 #[test]
 fn values_that_are_not_utf8(rt: HostRuntime) {
-    let bytes = file_of_nodes(&rt, rt.alloc(), WHOLE, b"\xC1\x07", DATA);
+    let bytes = file_of_nodes(rt.alloc(), WHOLE, b"\xC1\x07", DATA).expect(&rt, "a file");
     let files = two_files(bytes.as_slice(), b"AT\nx\xFFy\n");
     let words = [
         "export",
@@ -836,25 +837,25 @@ fn values_that_are_not_utf8(rt: HostRuntime) {
 
 #[test]
 fn lists_with_standard_input(rt: HostRuntime) {
-    let bytes = file_of_nodes(&rt, rt.alloc(), WHOLE, b"\xC1\x07", DATA);
+    let bytes = file_of_nodes(rt.alloc(), WHOLE, b"\xC1\x07", DATA).expect(&rt, "a file");
     assert_input_rows(&rt, rt.alloc(), bytes.as_slice(), WITH_INPUT);
 }
 
 #[test]
 fn lists_without_some_values(rt: HostRuntime) {
-    let bytes = file_of_nodes(&rt, rt.alloc(), WHOLE, b"\xC1\x07", DATA);
+    let bytes = file_of_nodes(rt.alloc(), WHOLE, b"\xC1\x07", DATA).expect(&rt, "a file");
     assert_input_rows(&rt, rt.alloc(), bytes.as_slice(), OF_VALUES);
 }
 
 #[test]
 fn lists_of_lines_and_names(rt: HostRuntime) {
-    let bytes = file_of_nodes(&rt, rt.alloc(), WHOLE, b"\xC1\x07", DATA);
+    let bytes = file_of_nodes(rt.alloc(), WHOLE, b"\xC1\x07", DATA).expect(&rt, "a file");
     assert_input_rows(&rt, rt.alloc(), bytes.as_slice(), OF_LINES_AND_NAMES);
 }
 
 #[test]
 fn lists_of_other_names(rt: HostRuntime) {
-    let bytes = file_of_nodes(&rt, rt.alloc(), WHOLE, b"\xC1\x07", DATA);
+    let bytes = file_of_nodes(rt.alloc(), WHOLE, b"\xC1\x07", DATA).expect(&rt, "a file");
     assert_input_rows(&rt, rt.alloc(), bytes.as_slice(), OF_OTHER_NAMES);
 }
 
@@ -871,13 +872,13 @@ fn assert_rows(rt: &impl Abort, alloc: Global, bytes: &[u8], rows: &[Row<'_>]) {
 
 #[test]
 fn lists_of_chosen_networks(rt: HostRuntime) {
-    let bytes = file_of_nodes(&rt, rt.alloc(), WHOLE, b"\xC1\x07", DATA);
+    let bytes = file_of_nodes(rt.alloc(), WHOLE, b"\xC1\x07", DATA).expect(&rt, "a file");
     assert_rows(&rt, rt.alloc(), bytes.as_slice(), OF_WHOLE);
 }
 
 #[test]
 fn lists_from_damaged_files(rt: HostRuntime) {
-    let bytes = file_of_nodes(&rt, rt.alloc(), DAMAGED, b"\xC1\x07", DATA);
+    let bytes = file_of_nodes(rt.alloc(), DAMAGED, b"\xC1\x07", DATA).expect(&rt, "a file");
     assert_rows(&rt, rt.alloc(), bytes.as_slice(), OF_DAMAGED);
 }
 
@@ -1001,7 +1002,7 @@ const OVER_DOUBLED: &[&[&str]] = &[
 
 #[test]
 fn trees_of_too_many_networks(rt: HostRuntime) {
-    let bytes = file_of_nodes(&rt, rt.alloc(), DOUBLED, b"\xC1\x07", DATA);
+    let bytes = file_of_nodes(rt.alloc(), DOUBLED, b"\xC1\x07", DATA).expect(&rt, "a file");
     let files = two_files(bytes.as_slice(), bytes.as_slice());
     let wanted =
         "mmdb: here.mmdb: its search tree leads to more networks than its nodes can have; see mmdb verify\n";
@@ -1078,7 +1079,7 @@ const NOTED: &[(&[&str], &[&str])] = &[
 
 #[test]
 fn notes_on_fields_and_ranges(rt: HostRuntime) {
-    let bytes = file_of_nodes(&rt, rt.alloc(), WHOLE, b"\xC1\x07", DATA);
+    let bytes = file_of_nodes(rt.alloc(), WHOLE, b"\xC1\x07", DATA).expect(&rt, "a file");
     for (texts, message) in NOTED {
         let run = run_of(rt.alloc(), bytes.as_slice(), texts, "");
         let holds = run.status == 0 && lines_hold(run.err(), message);
@@ -1088,7 +1089,7 @@ fn notes_on_fields_and_ranges(rt: HostRuntime) {
 
 #[test]
 fn notes_on_shown_paths(rt: HostRuntime) {
-    let bytes = file_of_nodes(&rt, rt.alloc(), WHOLE, b"\xC1\x07", DATA);
+    let bytes = file_of_nodes(rt.alloc(), WHOLE, b"\xC1\x07", DATA).expect(&rt, "a file");
     let words = &[
         "show",
         "here.mmdb",
@@ -1110,7 +1111,9 @@ const ONE_UNREADABLE: &[u8] = b"\x41x\xE1\xA1\x07\x41y";
 /// A file that is whole, of which one record can't be read.
 #[test]
 fn records_that_verify_reads(rt: HostRuntime) {
-    let bytes = file_of_nodes(&rt, rt.alloc(), &[(17, 19)], b"\xC1\x01", ONE_UNREADABLE);
+    let bytes = file_of_nodes(rt.alloc(), &[(17, 19)], b"\xC1\x01", ONE_UNREADABLE).expect(
+        &rt, "a file",
+    );
     let words = &["verify", "here.mmdb", "--whole"];
     let whole = run_of(rt.alloc(), bytes.as_slice(), words, "");
     let is_whole = whole.out() == "here.mmdb: ok\n" && whole.status == 0;

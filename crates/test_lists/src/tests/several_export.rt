@@ -1,10 +1,11 @@
 //! Networks of several databases, chosen and written by what each has.
+use crate::tests::asserted::assert_of;
 use mmdb_compare::{AskedDatabase, Together, TogetherPart};
 use mmdb_reader::{IpNetwork, MaxMindDbError, Reader};
 use mmdb_vectors::builder::{Field, changed_file, nodes_24};
 use std::alloc::Global;
 use std::process::Abort;
-use test_runs::program::{Run, assert_of, run_over, two_files};
+use test_runs::program::{Run, run_over, two_files};
 
 /// A database: its nodes, their count, its IP version and its type as they are encoded, and its data.
 type Database<'a> = (&'a [(u32, u32)], &'a [u8], &'a [u8], &'a [u8], &'a [u8]);

@@ -1,4 +1,5 @@
 //! Databases that are found elsewhere.
+use crate::tests::asserted::assert_of;
 use mmdb_files::SharedFiles;
 use mmdb_program::{Io, run};
 use mmdb_vectors::base::BASE_FILE;
@@ -9,7 +10,7 @@ use std::fs::{Metadata, OpenOptions};
 use std::io;
 use std::rt::Files;
 use std::time::{Clock, Duration};
-use test_runs::program::{Run, assert_of, file_of, terminals, words_with};
+use test_runs::program::{Run, file_of, terminals, words_with};
 
 /// What `MMDB_PATH` has: a missing folder and two others, between parts that are empty.
 const PATH: &str = ":missing::own/:other:";

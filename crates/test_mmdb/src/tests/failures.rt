@@ -1,13 +1,12 @@
 //! Files and an input that can't be read to their end, and writers that fail.
+use crate::tests::asserted::assert_of;
 use mmdb_program::{Io, run};
 use mmdb_vectors::base::BASE_FILE;
 use mmdb_vectors::file::TestFiles;
 use std::alloc::Global;
 use std::io::{self, BufReader, ErrorKind, Read};
 use std::process::Abort;
-use test_runs::program::{
-    Narrow, Run, assert_of, file_of, run_of, run_over, terminals, words_with,
-};
+use test_runs::program::{Narrow, Run, file_of, run_of, run_over, terminals, words_with};
 
 /// Commands over a file, with what they write of the base file.
 const COMMANDS: &[&[&str]] = &[

@@ -1,7 +1,8 @@
 //! The fields of records that share values by pointers.
+use crate::tests::asserted::assert_of;
 use mmdb_vectors::builder::{Field, changed_file, push_node_24};
 use std::alloc::{AllocError, Global};
-use test_runs::program::{assert_of, run_of};
+use test_runs::program::run_of;
 use test_runs::trees::file_of_nodes;
 
 /// At 0 the map {"x": "s"}, at 5 {"x": true}, and records: at 10 {"a": the first, "l": [the first, the second]}, at 23 {"a": the
@@ -26,7 +27,7 @@ const WORDS: &[&str] = &["info", "here.mmdb", "--fields"];
 
 #[test]
 fn records_that_share_values(rt: HostRuntime) {
-    let bytes = file_of_nodes(&rt, rt.alloc(), NODES, b"\xC1\x07", DATA);
+    let bytes = file_of_nodes(rt.alloc(), NODES, b"\xC1\x07", DATA).expect(&rt, "a file");
     let run = run_of(rt.alloc(), bytes.as_slice(), WORDS, "");
     let fields =
         "\nrecords:     5\n5\tmap\t\n5\tmap\ta\n4\tstring\ta.x\n1\tbool\ta.x\n4\tarray\tl\n4\tmap\tl.0\n1\tstring\tl.0.x\n4\tbool\tl.0.x\n";

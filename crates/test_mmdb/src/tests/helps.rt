@@ -1,6 +1,7 @@
 //! Helps, and what a terminal gets.
+use crate::tests::asserted::assert_of;
 use mmdb_vectors::base::BASE_FILE;
-use test_runs::program::{assert_of, file_of, run_of, run_over};
+use test_runs::program::{file_of, run_of, run_over};
 
 /// Words that ask for help, and what it has to hold.
 const HELPS: &[(&[&str], &[&str])] = &[

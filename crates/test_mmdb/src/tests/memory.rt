@@ -1,6 +1,7 @@
 //! Runs where memory runs out.
 ghost use Rattle.std.specs.Prelude.{◌<◌};
 
+use crate::tests::asserted::assert_of;
 use mmdb_program::{Io, run};
 use mmdb_vectors::base::BASE_FILE;
 use mmdb_vectors::builder::{Field, changed_file, nodes_24};
@@ -9,9 +10,7 @@ use mmdb_vectors::hoard::Hoard;
 use std::alloc::{AllocError, Global};
 use std::io::ErrorKind;
 use std::process::Abort;
-use test_runs::program::{
-    Narrow, Run, assert_of, file_of, run_over, terminals, two_files, words_with,
-};
+use test_runs::program::{Narrow, Run, file_of, run_over, terminals, two_files, words_with};
 
 /// How many bytes a run may write or report.
 const ROOM: usize = 2048;

@@ -1,7 +1,8 @@
 //! Fields with names of their own, under both names of the option.
+use crate::tests::asserted::assert_of;
 use mmdb_vectors::base::BASE_FILE;
 use mmdb_vectors::builder::{BASE_NODE, changed_file};
-use test_runs::program::{assert_of, run_of, run_over, two_files};
+use test_runs::program::{run_of, run_over, two_files};
 
 /// The record {"c": {"i": "DE"}, "n": 7} of 128.0.0.0/1.
 const DATA: &[u8] = b"\xE2\x41c\xE1\x41i\x42DE\x41n\xA1\x07";

@@ -1,9 +1,10 @@
 //! How far a command is, as a terminal shows it.
+use crate::tests::asserted::assert_of;
 use mmdb_console::{Passed, text_of_progress};
 use mmdb_program::{Io, Terminals, run};
 use mmdb_vectors::base::BASE_FILE;
 use std::alloc::{AllocError, Global};
-use test_runs::program::{Run, assert_of, file_of, words_with};
+use test_runs::program::{Run, file_of, words_with};
 
 /// The unit, how many, the bytes, the input's size, the milliseconds, and the text.
 type Shown<'a> = (&'a str, u64, Option<u64>, Option<u64>, u64, &'a str);

@@ -1,4 +1,5 @@
 //! Databases that are replaced while rows pass.
+use crate::tests::asserted::assert_of;
 use mmdb_files::SharedFiles;
 use mmdb_program::{Io, run};
 use mmdb_vectors::base::BASE_FILE;
@@ -10,7 +11,7 @@ use std::fs::{Metadata, OpenOptions};
 use std::io::{self, BufReader, Read};
 use std::rt::Files;
 use std::time::{Clock, Duration};
-use test_runs::program::{Run, assert_of, file_of, terminals, words_with};
+use test_runs::program::{Run, file_of, terminals, words_with};
 
 /// The file at the path at a time, if there is one, its size as it is told, and whether it is a plain file.
 #[derive(Clone, Copy)]

@@ -1,9 +1,10 @@
 //! Runs of the program.
+use crate::tests::asserted::assert_of;
 use mmdb_vectors::base::BASE_FILE;
 use mmdb_vectors::builder::{BASE_DATA, BASE_NODE, Changes, Field, changed_file};
 use std::alloc::{AllocError, Global};
 use std::process::Abort;
-use test_runs::program::{Run, assert_of, run_of};
+use test_runs::program::{Run, run_of};
 use test_runs::trees::{DAMAGED, DATA, file_of_nodes};
 
 /// Words, the status, standard output, and what standard error has to hold.
@@ -599,13 +600,13 @@ const OVER_DOUBLED: &[Notes<'static>] = &[
 
 #[test]
 fn fields_of_databases_that_are_not_looked_through(rt: HostRuntime) {
-    let bytes = file_of_nodes(&rt, rt.alloc(), DOUBLED, b"\xC1\x07", DATA);
+    let bytes = file_of_nodes(rt.alloc(), DOUBLED, b"\xC1\x07", DATA).expect(&rt, "a file");
     assert_notes(&rt, rt.alloc(), bytes.as_slice(), OVER_DOUBLED);
 }
 
 #[test]
 fn fields_of_records_beside_unread_ones(rt: HostRuntime) {
-    let bytes = file_of_nodes(&rt, rt.alloc(), DAMAGED, b"\xC1\x07", DATA);
+    let bytes = file_of_nodes(rt.alloc(), DAMAGED, b"\xC1\x07", DATA).expect(&rt, "a file");
     assert_notes(&rt, rt.alloc(), bytes.as_slice(), BESIDE_UNREAD);
 }
 

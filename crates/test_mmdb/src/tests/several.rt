@@ -1,8 +1,9 @@
 //! Addresses that are asked of several databases.
+use crate::tests::asserted::assert_of;
 use mmdb_vectors::builder::{BASE_DATA, BASE_NODE, Changes, Field, changed_file};
 use std::alloc::{AllocError, Global};
 use std::process::Abort;
-use test_runs::program::{Run, assert_of, run_over, two_files};
+use test_runs::program::{Run, run_over, two_files};
 
 /// A database: its nodes, its data, and what is changed of its metadata.
 type Database<'a> = (&'a [u8], &'a [u8], Changes<'a>);

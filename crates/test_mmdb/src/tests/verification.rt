@@ -1,8 +1,9 @@
 //! What `verify` says of files that are not as the base file is.
+use crate::tests::asserted::assert_of;
 use mmdb_vectors::builder::{BASE_NODE, Changes, Field, changed_file};
 use mmdb_vectors::section::section_of;
 use std::test::Fail;
-use test_runs::program::{assert_of, run_of};
+use test_runs::program::run_of;
 
 /// A file by how many arrays hold its text, and by changes of its metadata; what is asked of it, the status, and how what is
 /// written begins and ends.
