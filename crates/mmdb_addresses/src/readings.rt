@@ -48,7 +48,8 @@ pub fn short_in(reading: Reading, text: &[u8]) -> Option<Ipv4Addr>
     }
 }
 
-/// The address in a text, read as any.
+/// The address in a text, read as any. Where rows mostly have one of IPv4 as it stands, nothing is held ready for this call.
+#[cold]
 #[inline(never)]
 pub fn any_address(reading: Reading, text: &[u8]) -> Option<IpAddr>
     ensures { Finds (IsAddressIn reading text.now) result }
