@@ -2,7 +2,7 @@
 ghost use Rattle.std.specs.Prelude.{◌≡◌, ◌≢◌, false};
 ghost use Rattle.std.specs.declared.net.ip_addr.IpAddr.TheVariants.{V6};
 ghost use Rattle.std.specs.Net.Addr.{IsCanonicalOf};
-ghost use Rattle.mmdb_cmd_enrich.specs.Asked.{Asks};
+ghost use Rattle.mmdb_layout.specs.Asked.{Asks};
 
 use mmdb_reader::Reader;
 use std::convert::AsSlice;
@@ -47,7 +47,7 @@ fn mapped_asked<S: AsSlice<u8> + Drop>(reader: &Reader<S>, address: Ipv6Addr) ->
 /// The address that a database is asked for in place of this one: of an address of IPv6 that is mapped to one of IPv4, a
 /// database is asked for that where it has no IPv6, or no record of the address as it is written.
 #[inline(always)]
-pub(crate) fn asked_of<S: AsSlice<u8> + Drop>(reader: &Reader<S>, address: IpAddr) -> IpAddr
+pub fn asked_of<S: AsSlice<u8> + Drop>(reader: &Reader<S>, address: IpAddr) -> IpAddr
     ensures { Asks reader.now address result }
 {
     match address {

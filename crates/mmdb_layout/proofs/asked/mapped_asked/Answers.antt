@@ -2,7 +2,7 @@ use Rattle.std.proofs.Common.{inr, refl, subst, sym, ◌∙◌}
 use Rattle.std.specs.declared.net.ip_addr.IpAddr.TheVariants.{V6}
 use Rattle.mmdb_reader.specs.Found.{leaf_of}
 use Rattle.mmdb_reader.specs.Lookup.{Answers, outcome_at}
-use Rattle.mmdb_cmd_enrich.proofs.asked.mapped_asked.Goals as goal
+use Rattle.mmdb_layout.proofs.asked.mapped_asked.Goals as goal
 
 pub returns-in-Some : goal.returns-in-Some
 returns-in-Some g c =
