@@ -16,3 +16,4 @@ mod AskedLaws
 mod MemberLaws
 mod PartLaws
 mod GainLaws
+mod StretchLaws

@@ -1,4 +1,6 @@
 //! Standard output, as rows are written to it.
+ghost use Rattle.std.specs.Prelude.{◌≡◌, IfOk, OnErr, IsErr};
+
 use mmdb_console::ProgramError;
 use std::io::{self, ErrorKind, Write};
 
@@ -7,7 +9,7 @@ use std::io::{self, ErrorKind, Write};
 /// one.
 #[derive(Drop)]
 pub(crate) struct Output<'o, O: Write> {
-    out: &'o mut O,
+    pub(crate) out: &'o mut O,
     is_live: bool,
     has_failed: bool,
 }
@@ -22,7 +24,10 @@ impl<'o, O: Write> Output<'o, O> {
     }
 
     /// What a filter of rows answered that wrote here, as the program reports it.
-    pub(crate) fn of_filter<T>(&self, done: io::Result<T>) -> Result<T, ProgramError> {
+    pub(crate) fn of_filter<T>(&self, done: io::Result<T>) -> Result<T, ProgramError>
+        ensures value { IfOk result (λ value. done ≡ Ok value) }
+        ensures failed { OnErr result (IsErr done) }
+    {
         match done {
             Ok(value) => Ok(value),
             Err(error) if self.has_failed => Err(ProgramError::of_write(error)),
