@@ -17,3 +17,4 @@ mod MemberLaws
 mod PartLaws
 mod GainLaws
 mod StretchLaws
+mod TaskLaws

@@ -132,6 +132,17 @@ pub enriched_end : (rows : Rows) (Are : Template → List Database → Type 0) (
 enriched_end rows Are None mid left old now before counts is end = tt
 enriched_end rows Are (Some xs) mid left old now before counts is end = subst (λ m. OnSome m (IsAtEnd left)) is.2 end
 
+-- the same rows, output and counts
+pub filtered_at : (rows r : Rows) (adds : MayAdd) (input left old o new : Option (List ℕ)) (before b after : Counts)
+    → rows ≡ r → old ≡ o → before ≡ b → IsFiltered rows adds input left old new before after → IsFiltered r adds input left o new b after
+filtered_at rows r adds input left old o new before b after same_rows same_output same_counts is =
+    subst (λ t. IsFiltered t adds input left o new b after) same_rows
+    (subst (λ t. IsFiltered rows adds input left t new b after) same_output (subst (λ t. IsFiltered rows adds input left old new t after) same_counts is))
+
+pub begun_at : (rows r : Rows) (adds : MayAdd) (input old o new : Option (List ℕ)) → rows ≡ r → old ≡ o → IsBegun rows adds input old new → IsBegun r adds input o new
+begun_at rows r adds input old o new same_rows same_output is =
+    subst (λ t. IsBegun t adds input o new) same_rows (subst (λ t. IsBegun rows adds input t new) same_output is)
+
 -- what holds in any case holds of an error
 pub on_any_err : {T E A : Type 0} (r : Result T E) → A → OnErr r A
 on_any_err (Ok x) a = tt

@@ -383,7 +383,8 @@ fn enrich_from<W: Template + Drop, R: Files + Clock, I: Live, O: Write, E: Pace>
     passage: &mut Passage<'_, '_, '_, R>,
     console: &mut Console<'_, Output<'_, O>, E>,
 ) -> Result<bool, ProgramError>
-    ensures whole { OnOk result (IsFiltered passage.old.rows (additions_of (W.template what) databases.now)
+    ensures whole { OnOk result (IsFiltered passage.old.rows
+        (additions_of (W.template what) databases.now)
         (I.remaining input.old.input.now) (I.remaining input.new.input.now)
         (O.contents console.old.out.now.out.now) (O.contents console.new.out.now.out.now)
         passage.old.counts passage.new.counts) }
@@ -391,7 +392,8 @@ fn enrich_from<W: Template + Drop, R: Files + Clock, I: Live, O: Write, E: Pace>
         → OnSome (I.remaining input.old.input.now) (IsAtEnd (I.remaining input.new.input.now))) }
     ensures asked { IfOk result (λ is_end. is_end ≡ false
         → (passage.old.reloads ≡ true) × (passage.new.lookout.has_seen ≡ true)) }
-    ensures begun { OnErr result (IsBegun passage.old.rows (additions_of (W.template what) databases.now)
+    ensures begun { OnErr result (IsBegun passage.old.rows
+        (additions_of (W.template what) databases.now)
         (I.remaining input.old.input.now)
         (O.contents console.old.out.now.out.now) (O.contents console.new.out.now.out.now)) }
     ensures rows { passage.new.rows ≡ passage.old.rows }

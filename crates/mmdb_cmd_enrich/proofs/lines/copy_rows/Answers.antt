@@ -7,6 +7,7 @@ pub loop-init : goal.loop-init
 loop-init g c = record {
   way = none_filtered c.args.passage.now.rows (g.A.Additions.adds c.args.additions.now) (g.I.Read.remaining c.args.input.now.input.now) (g.O.Write.contents c.args.console.now.out.now.out.now) c.args.passage.now.counts;
   rows = refl;
+  reloads = refl;
   fits = c.requires;
 }
 
@@ -58,6 +59,7 @@ loop-preserved g c =
       way = subst (λ n. IsFiltered rows adds input left old (g.O.Write.contents c.check_rows.new.console.out.now.out.now) c.args.passage.now.counts n) (sym c.check_rows.ensures.counts)
           (subst (λ o. IsFiltered rows adds input left old (g.O.Write.contents o.out.now) c.args.passage.now.counts after) (sym c.check_rows.ensures.output) way);
       rows = c.check_rows.ensures.rows ∙ c.in_ok-is_end.ensures.rows ∙ c.loop.invariant.rows;
+      reloads = c.check_rows.ensures.reloads ∙ c.in_ok-is_end.ensures.reloads ∙ c.loop.invariant.reloads;
       fits = c.in_ok-is_end.ensures.fits;
     }
 
