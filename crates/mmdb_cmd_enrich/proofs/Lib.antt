@@ -18,3 +18,4 @@ mod PartLaws
 mod GainLaws
 mod StretchLaws
 mod TaskLaws
+mod HeaderLaws

@@ -18,6 +18,7 @@ pub mod Ahead
 pub mod Remembers
 pub mod Stretches
 pub mod Tasks
+pub mod Header
 -- What only contracts of private functions and proofs name.
 pub mod Same
 pub mod Working

@@ -1,5 +1,6 @@
 //! Standard input, as rows are read from it.
-use mmdb_console::{ProgramError, put};
+use crate::output::put;
+use mmdb_console::ProgramError;
 use mmdb_filter::Live;
 use std::cell::Cell;
 use std::io::{self, BufRead, ErrorKind, Read, Write};

@@ -1,8 +1,19 @@
 //! Standard output, as rows are written to it.
-ghost use Rattle.std.specs.Prelude.{◌≡◌, IfOk, OnErr, IsErr};
+ghost use Rattle.std.specs.Prelude.{◌≡◌, IfOk, OnErr, OnOk, IsErr};
+ghost use Rattle.std.specs.Io.KnownBytes.{Appends};
 
 use mmdb_console::ProgramError;
 use std::io::{self, ErrorKind, Write};
+
+/// Writes a text; an `Err` is `Write`.
+pub(crate) fn put<O: Write>(text: &[u8], out: &mut O) -> Result<(), ProgramError>
+    ensures { OnOk result (Appends (O.contents out.old) (O.contents out.new) text.now) }
+{
+    match out.write_all(text) {
+        Ok(()) => Ok(()),
+        Err(error) => Err(ProgramError::Write(error)),
+    }
+}
 
 /// An output that knows whether it failed. A filter of rows reports the error of a read or of a write alike. What a filter
 /// flushes before each read goes out where the input is live. It ends at a write of no byte, and goes on after an interrupted
