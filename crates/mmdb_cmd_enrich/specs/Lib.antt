@@ -19,6 +19,7 @@ pub mod Remembers
 pub mod Stretches
 pub mod Tasks
 pub mod Header
+pub mod Mark
 -- What only contracts of private functions and proofs name.
 pub mod Same
 pub mod Working
