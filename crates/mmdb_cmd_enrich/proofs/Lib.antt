@@ -19,3 +19,4 @@ mod GainLaws
 mod StretchLaws
 mod TaskLaws
 mod HeaderLaws
+mod CopiedLaws

@@ -1,13 +1,16 @@
 -- The first row, which may name the columns.
-use Rattle.std.specs.Prelude.{◌≡◌, ℕ, List, [], ◌∷◌, ◌++◌, map, Option, Some, None, IfSome, Bool, true, false, ◌==◌, if◌then◌else◌}
+use Rattle.std.specs.Prelude.{◌≡◌, ◌≢◌, ℕ, List, [], ◌∷◌, ◌++◌, map, Option, Some, None, IfSome, Bool, true, false, ⊤}
 use Rattle.std.specs.Io.KnownBytes.{Appends}
 use Rattle.mmdb_filter.specs.Cells.{csv_cell}
-use Rattle.mmdb_filter.specs.Lines.{row_with}
+use Rattle.mmdb_filter.specs.Lines.{row_with, text_of}
 use Rattle.mmdb_filter.specs.Rows.{row_from, rows_after}
 use Rattle.mmdb_filter.specs.declared.rows.Rows.{Rows}
 use Rattle.mmdb_filter.specs.declared.rows.Rows.TheVariants.{Lines, Csv}
 use Rattle.mmdb_filter.specs.declared.rows.RowPosition.TheVariants.{Cell}
-use Rattle.mmdb_cmd_enrich.specs.Columns.{delimiter_of}
+use Rattle.mmdb_cmd_enrich.specs.Columns.{HasBreaks, delimiter_of}
+use Rattle.mmdb_cmd_enrich.specs.declared.header.Columns.{Columns}
+use Rattle.mmdb_cmd_enrich.specs.declared.task.Column.{Column}
+use Rattle.mmdb_cmd_enrich.specs.declared.task.Column.TheVariants.{Number, Name}
 
 -- a name as a cell
 abbrev pub name_cell : Rows → List ℕ → List ℕ
@@ -24,12 +27,31 @@ abbrev pub header_with : Rows → List (List ℕ) → List ℕ → List ℕ
 header_with rows names [] = []
 header_with rows names (x ∷ xs) = row_with (x ∷ xs) (name_cells rows names) 0
 
--- Where the bytes of the input are known, it lost its first row, and known output grew by it, with these names before its end.
-abbrev pub IsHeaderCopied : Rows → List (List ℕ) → Option (List ℕ) → Option (List ℕ) → Option (List ℕ) → Option (List ℕ) → Type 0
-IsHeaderCopied rows names input left old new =
-    IfSome input (λ xs. (left ≡ Some (rows_after rows Cell xs)) × Appends old new (header_with rows names (row_from rows Cell xs)))
+-- what is written in place of the first row, and what comes after it: it is a row as others where it does not name the columns
+abbrev pub header_text : Bool → Rows → List (List ℕ) → List ℕ → List ℕ
+header_text true rows names xs = header_with rows names (row_from rows Cell xs)
+header_text false rows names xs = []
 
--- the same where the first row names the columns; else nothing is read and nothing is written
+abbrev pub behind_header : Bool → Rows → List ℕ → List ℕ
+behind_header true rows xs = rows_after rows Cell xs
+behind_header false rows xs = xs
+
+-- where the column of the address is that was asked for by its number
+abbrev pub IsAddressIn : Column → ℕ → Type 0
+IsAddressIn (Number number) address = address ≡ number
+IsAddressIn (Name name) address = ⊤
+
+-- the columns that this first row names
+abbrev pub AreNamedBy : Rows → Column → List ℕ → Columns → Type 0
+AreNamedBy rows column row columns = IsAddressIn column columns.address × (n : ℕ) × (columns.breaks ≡ Some n) × HasBreaks rows (text_of row) n
+
+-- The columns of the rows of some bytes. Of bytes without a first row that would name them nothing is known.
+abbrev pub AreColumnsOf : Bool → Rows → Column → List ℕ → Columns → Type 0
+AreColumnsOf true rows column xs columns = row_from rows Cell xs ≢ [] → AreNamedBy rows column (row_from rows Cell xs) columns
+AreColumnsOf false rows column xs columns = IsAddressIn column columns.address × (columns.breaks ≡ None)
+
+-- Where the bytes of the input are known, it lost the first row where that names the columns, and known output grew by it with these
+-- names.
 abbrev pub IsHeaderPassed : Bool → Rows → List (List ℕ) → Option (List ℕ) → Option (List ℕ) → Option (List ℕ) → Option (List ℕ) → Type 0
-IsHeaderPassed true rows names input left old new = IsHeaderCopied rows names input left old new
-IsHeaderPassed false rows names input left old new = (left ≡ input) × (new ≡ old)
+IsHeaderPassed is_header rows names input left old new =
+    IfSome input (λ xs. (left ≡ Some (behind_header is_header rows xs)) × Appends old new (header_text is_header rows names xs))

@@ -20,6 +20,7 @@ pub mod Stretches
 pub mod Tasks
 pub mod Header
 pub mod Mark
+pub mod Copied
 -- What only contracts of private functions and proofs name.
 pub mod Same
 pub mod Working

@@ -1,11 +1,11 @@
 //! The first row, which may name the columns.
-ghost use Rattle.std.specs.Prelude.{◌≡◌, ◌-◌, ◌∷◌, ◌++◌, length, take, drop, map, IfOk, IfSome, OnOk, Some};
+ghost use Rattle.std.specs.Prelude.{◌≡◌, ◌-◌, ◌∷◌, ◌++◌, length, take, drop, map, IfOk, IfSome, OnOk, Some, true};
 ghost use Rattle.std.specs.Io.KnownBytes.{Appends};
 ghost use Rattle.mmdb_filter.specs.Lines.{row_with, text_length};
 ghost use Rattle.mmdb_filter.specs.Rows.{row_from, rows_after};
 ghost use Rattle.mmdb_filter.specs.declared.rows.RowPosition.TheVariants.{Cell};
 ghost use Rattle.mmdb_cmd_enrich.specs.Columns.{delimiter_of as spec_delimiter_of};
-ghost use Rattle.mmdb_cmd_enrich.specs.Header.{IsHeaderCopied, IsHeaderPassed, header_with, name_cell, name_cells};
+ghost use Rattle.mmdb_cmd_enrich.specs.Header.{AreColumnsOf, AreNamedBy, IsAddressIn, IsHeaderPassed, name_cell, name_cells};
 
 use crate::columns::{breaks_in, delimiter_of};
 use crate::task::{Column, RowsTask};
@@ -190,7 +190,9 @@ fn place_of(
     rows: Rows,
     column: Column<'_>,
     header: &[u8],
-) -> Result<usize, ProgramError> {
+) -> Result<usize, ProgramError>
+    ensures { IfOk result (IsAddressIn column.entry) }
+{
     let name = match column {
         Column::Number(number) => return Ok(number),
         Column::Name(name) => name,
@@ -217,8 +219,9 @@ fn write_header<O: Write>(
     header: &mut Vec<u8>,
     out: &mut O,
 ) -> Result<Columns, ProgramError>
-    ensures { OnOk result (Appends (O.contents out.old) (O.contents out.new) (row_with
+    ensures written { OnOk result (Appends (O.contents out.old) (O.contents out.new) (row_with
         header.old.items (name_cells task.now.rows (map (λ name. name.now) task.now.names.items)) 0)) }
+    ensures columns { IfOk result (AreNamedBy task.now.rows task.now.column header.old.items) }
 {
     let address = place_of(alloc, task.rows, task.column, header.as_slice())?;
     let (cells, _) = split_end(header.as_slice());
@@ -235,9 +238,11 @@ fn copy_header<I: BufRead, O: Write>(
     input: &mut I,
     out: &mut O,
 ) -> Result<Columns, ProgramError>
-    ensures { OnOk result (IsHeaderCopied
-        task.now.rows (map (λ name. name.now) task.now.names.items)
+    ensures passed { OnOk result (IsHeaderPassed
+        true task.now.rows (map (λ name. name.now) task.now.names.items)
         (I.remaining input.old) (I.remaining input.new) (O.contents out.old) (O.contents out.new)) }
+    ensures columns { IfOk result (λ columns. IfSome (I.remaining input.old)
+        (λ xs. AreColumnsOf true task.now.rows task.now.column xs columns)) }
 {
     let mut header = read_header(alloc, task.rows, input)?;
     if header.is_empty() {
@@ -256,9 +261,11 @@ pub(crate) fn columns_of_input<I: BufRead, O: Write>(
     input: &mut I,
     out: &mut O,
 ) -> Result<Columns, ProgramError>
-    ensures { OnOk result (IsHeaderPassed
+    ensures passed { OnOk result (IsHeaderPassed
         task.now.header task.now.rows (map (λ name. name.now) task.now.names.items)
         (I.remaining input.old) (I.remaining input.new) (O.contents out.old) (O.contents out.new)) }
+    ensures columns { IfOk result (λ columns. IfSome (I.remaining input.old)
+        (λ xs. AreColumnsOf task.now.header task.now.rows task.now.column xs columns)) }
 {
     if task.header {
         return copy_header(alloc, task, input, out);

@@ -2,6 +2,7 @@
 ghost use Rattle.std.specs.Prelude.{◌≡◌, ◌∷◌, [], OnErr, OnOk, OnSome, IfOk, true, false};
 ghost use Rattle.std.specs.Io.KnownBytes.{IsAtEnd};
 ghost use Rattle.mmdb_filter.specs.Lines.{IsBegun, IsFiltered};
+ghost use Rattle.mmdb_cmd_enrich.specs.Copied.{AreAllCopied, AreRowsCopied};
 ghost use Rattle.mmdb_cmd_enrich.specs.Stretches.{AreAsked, IsEnriched, IsEnrichedFront, additions_of};
 ghost use Rattle.mmdb_cmd_enrich.specs.Tasks.{AreCellsAsked, IsMemberAsked, IsMemberOf};
 ghost use Rattle.mmdb_cmd_enrich.specs.Template.{Template as SpecTemplate};
@@ -604,7 +605,12 @@ fn copy_all_rows<R: Files + Clock, I: Live, O: Write, E: Pace>(
     input: &mut I,
     passage: &mut Passage<'_, '_, '_, R>,
     console: &mut Console<'_, Output<'_, O>, E>,
-) -> Result<(), ProgramError> {
+) -> Result<(), ProgramError>
+    ensures { OnOk result (AreRowsCopied passage.old.rows task.now
+        (λ columns. AreAsked passage.old.reloads databases.old.items
+        (AreCellsAsked arguments.now columns)) (I.remaining input.old)
+        (O.contents console.old.out.now.out.now) (O.contents console.new.out.now.out.now)) }
+{
     copy_mark(input, console.out)?;
     let columns = columns_of_input(console.alloc, task, input, console.out)?;
     let bytes = Cell::new(0);
@@ -629,7 +635,12 @@ fn copy_all_objects<R: Files + Clock, I: Live, O: Write, E: Pace>(
     input: &mut I,
     passage: &mut Passage<'_, '_, '_, R>,
     console: &mut Console<'_, Output<'_, O>, E>,
-) -> Result<(), ProgramError> {
+) -> Result<(), ProgramError>
+    ensures { OnOk result (AreAllCopied passage.old.rows
+        (AreAsked passage.old.reloads databases.old.items (IsMemberAsked arguments.now))
+        (I.remaining input.old)
+        (O.contents console.old.out.now.out.now) (O.contents console.new.out.now.out.now)) }
+{
     copy_mark(input, console.out)?;
     let bytes = Cell::new(0);
     let mut counted = Counted {
