@@ -1,5 +1,6 @@
 -- What comes one after the other of an input is all of it.
 use Rattle.std.proofs.Common.{◌≡◌, ℕ, List, [], ◌++◌, Option, Some, None, IfSome, OnSome, map, refl, sym, ap, ◌∙◌, subst}
+use Rattle.std.specs.Prelude.{Result, Ok, Err, OnOk}
 use Rattle.std.specs.Io.KnownBytes.{Appends, IsAtEnd}
 use Rattle.std.proofs.KnownBytes.{Appends-trans}
 use Rattle.mmdb_filter.specs.Lines.{written}
@@ -43,3 +44,8 @@ rows_copied rows task Are columns (Some xs) mid next left old now then new befor
     (subst (λ m. OnSome m (IsAtEnd left)) behind end) in
     let text = written (lines_of stretches) in
     (columns, stretches, subst (λ m. IfSome m (λ ys. AreColumnsOf task.header task.rows task.column ys columns)) kept named, are, Appends-trans old now new (mark_of mark xs) (header ++ text) put (Appends-trans now then new header text put_header more))
+
+-- what follows of two facts of a value
+pub on_ok : {T E A B C : Type 0} (r : Result T E) → (A → B → C) → OnOk r A → OnOk r B → OnOk r C
+on_ok (Ok x) f a b = f a b
+on_ok (Err e) f a b = tt
