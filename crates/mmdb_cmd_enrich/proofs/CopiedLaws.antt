@@ -46,6 +46,6 @@ rows_copied rows task Are columns (Some xs) mid next left old now then new befor
     (columns, stretches, subst (λ m. IfSome m (λ ys. AreColumnsOf task.header task.rows task.column ys columns)) kept named, are, Appends-trans old now new (mark_of mark xs) (header ++ text) put (Appends-trans now then new header text put_header more))
 
 -- what follows of two facts of a value
-pub on_ok : {T E A B C : Type 0} (r : Result T E) → (A → B → C) → OnOk r A → OnOk r B → OnOk r C
-on_ok (Ok x) f a b = f a b
-on_ok (Err e) f a b = tt
+pub on_both : {T E A B C : Type 0} (r : Result T E) → (A → B → C) → OnOk r A → OnOk r B → OnOk r C
+on_both (Ok x) f a b = f a b
+on_both (Err e) f a b = tt

@@ -1,6 +1,6 @@
 -- Rows that pass in two stretches, one after the other, pass as in one.
 use Rattle.std.proofs.Common.{◌≡◌, ℕ, List, [], ◌∷◌, ◌++◌, Option, Some, None, OnSome, refl, sym, ap, ◌∙◌, subst, append_assoc, append-nil}
-use Rattle.std.specs.Prelude.{Result, Ok, Err, OnErr}
+use Rattle.std.specs.Prelude.{Result, Ok, Err, OnErr, OnOk}
 use Rattle.std.specs.Io.KnownBytes.{Appends, IsAtEnd}
 use Rattle.std.proofs.KnownBytes.{Appends-nil, Appends-trans}
 use Rattle.mmdb_filter.specs.Counting.{count_one}
@@ -147,3 +147,12 @@ begun_at rows r adds input old o new same_rows same_output is =
 pub on_any_err : {T E A : Type 0} (r : Result T E) → A → OnErr r A
 on_any_err (Ok x) a = tt
 on_any_err (Err e) a = a
+
+-- what follows of a fact
+pub on_err : {T E A B : Type 0} (r : Result T E) → (A → B) → OnErr r A → OnErr r B
+on_err (Ok x) f a = tt
+on_err (Err e) f a = f a
+
+pub on_ok : {T E A B : Type 0} (r : Result T E) → (A → B) → OnOk r A → OnOk r B
+on_ok (Ok x) f a = f a
+on_ok (Err e) f a = tt

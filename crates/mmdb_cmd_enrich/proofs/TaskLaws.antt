@@ -16,6 +16,6 @@ cells_asked arguments columns rows reading column breaks network paths of_rows o
     (paths, λ i. cells (of_rows i) (of_reading i) (of_column i) (of_breaks i) (of_network i) paths)
 
 pub member_asked : (arguments : EnrichArguments) (task : JsonTask) (template : Template)
-    → task.reading ≡ reading_asked arguments → task.nulls ≡ arguments.nulls → task.into.now ≡ name_asked arguments → IsMemberOf task template → IsMemberAsked arguments template
-member_asked arguments task template of_reading of_nulls of_name (kind, long, fields, is) =
-    (kind, long, task.path.items, fields, is ∙ (λ i. member kind long (of_reading i) task.path.items (of_nulls i) (of_name i) fields))
+    → task.reading ≡ reading_asked arguments → task.nulls ≡ arguments.nulls → task.into.now ≡ name_asked arguments → task.network ≡ arguments.network → IsMemberOf task template → IsMemberAsked arguments template
+member_asked arguments task template of_reading of_nulls of_name of_network (kind, long, fields, network, is) =
+    (kind, long, task.path.items, fields, network ∙ of_network, is ∙ (λ i. member kind long (of_reading i) task.path.items (of_nulls i) (of_name i) fields))

@@ -12,6 +12,7 @@ use Rattle.mmdb_reader.specs.declared.path.PathElement.{PathElement}
 use Rattle.mmdb_cmd_enrich.specs.Template.{Template, cells, member}
 use Rattle.mmdb_cmd_enrich.specs.declared.header.Columns.{Columns}
 use Rattle.mmdb_cmd_enrich.specs.declared.members.MemberKind.{MemberKind}
+use Rattle.mmdb_cmd_enrich.specs.declared.members.MemberKind.TheVariants.{Fields, NetworkAndFields, Records}
 use Rattle.mmdb_cmd_enrich.specs.declared.members.NamedField.{NamedField}
 use Rattle.mmdb_cmd_enrich.specs.declared.task.JsonTask.{JsonTask}
 
@@ -47,13 +48,20 @@ abbrev pub AreCellsAsked : EnrichArguments → Columns → Template → Type 0
 AreCellsAsked arguments columns template =
     (paths : List (List PathElement)) × (template ≡ cells (rows_asked arguments) (reading_asked arguments) columns.address columns.breaks arguments.network paths)
 
+-- a member has the network of the address
+abbrev pub has_network : MemberKind → Bool
+has_network NetworkAndFields = true
+has_network Fields = false
+has_network Records = false
+
 -- a member as a task of objects asks for it
 abbrev pub IsMemberOf : JsonTask → Template → Type 0
 IsMemberOf task template =
-    (kind : MemberKind) × (long : Bool) × (fields : List NamedField) × (template ≡ member kind long task.reading task.path.items task.nulls task.into.now fields)
+    (kind : MemberKind) × (long : Bool) × (fields : List NamedField) × (has_network kind ≡ task.network)
+    × (template ≡ member kind long task.reading task.path.items task.nulls task.into.now fields)
 
 -- a member of the name
 abbrev pub IsMemberAsked : EnrichArguments → Template → Type 0
 IsMemberAsked arguments template =
-    (kind : MemberKind) × (long : Bool) × (path : List PathStep) × (fields : List NamedField)
+    (kind : MemberKind) × (long : Bool) × (path : List PathStep) × (fields : List NamedField) × (has_network kind ≡ arguments.network)
     × (template ≡ member kind long (reading_asked arguments) path arguments.nulls (name_asked arguments) fields)

@@ -8,9 +8,9 @@ ghost use Rattle.mmdb_cmd_enrich.specs.Columns.{delimiter_of as spec_delimiter_o
 ghost use Rattle.mmdb_cmd_enrich.specs.Header.{AreColumnsOf, AreNamedBy, IsAddressIn, IsHeaderPassed, name_cell, name_cells};
 
 use crate::columns::{breaks_in, delimiter_of};
+use crate::output::put;
 use crate::task::{Column, RowsTask};
 use csv::{ByteRecord, ReaderBuilder};
-use crate::output::put;
 use mmdb_console::ProgramError;
 use mmdb_filter::{MOST_SEEN, RowPosition, Rows, put_csv_cell, read_chunk};
 use std::alloc::{AllocError, Global};

@@ -4,7 +4,7 @@ ghost use Rattle.std.specs.Io.KnownBytes.{IsAtEnd};
 ghost use Rattle.mmdb_filter.specs.Lines.{IsBegun, IsFiltered};
 ghost use Rattle.mmdb_cmd_enrich.specs.Copied.{AreAllCopied, AreRowsCopied};
 ghost use Rattle.mmdb_cmd_enrich.specs.Stretches.{AreAsked, IsEnriched, IsEnrichedFront, additions_of};
-ghost use Rattle.mmdb_cmd_enrich.specs.Tasks.{AreCellsAsked, IsMemberAsked, IsMemberOf};
+ghost use Rattle.mmdb_cmd_enrich.specs.Tasks.{AreCellsAsked, IsMemberAsked, IsMemberOf, has_network};
 ghost use Rattle.mmdb_cmd_enrich.specs.Template.{Template as SpecTemplate};
 
 use crate::ask::{Ask, OneDatabase};
@@ -178,11 +178,6 @@ impl<'r, 'n, 'a, R: Files + Clock> Passage<'r, 'n, 'a, R> {
             reloads: lookout.is_wanted,
             lookout,
         }
-    }
-
-    // Takes out what is noted of records.
-    fn take_records(&mut self, alloc: Global) -> Notes {
-        mem::replace(&mut self.records, Notes::new(alloc))
     }
 }
 
@@ -372,7 +367,8 @@ fn enrich_by<D: Ask, W: Template, R: Files + Clock, I: Live, O: Write, E: Pace>(
     ensures rows { passage.new.rows ≡ passage.old.rows }
     ensures reloads { passage.new.reloads ≡ passage.old.reloads }
 {
-    let memory = enrichment.memory(passage.take_records(console.alloc))?;
+    let records = mem::replace(&mut passage.records, Notes::new(console.alloc));
+    let memory = enrichment.memory(records)?;
     enrich_with(enrichment, memory, databases, input, passage, console)
 }
 
@@ -448,7 +444,9 @@ fn record_fields<'k>(alloc: Global, keys: &'k [String]) -> Result<Vec<NamedField
 }
 
 // What the member has, of so many databases: of one alone without a field all of its record.
-fn kind_of(task: &JsonTask<'_>, databases: &[Database]) -> MemberKind {
+fn kind_of(task: &JsonTask<'_>, databases: &[Database]) -> MemberKind
+    ensures { has_network result ≡ task.now.network }
+{
     if task.network {
         MemberKind::NetworkAndFields
     } else if task.fields.is_empty() && databases.len() > 1 {

@@ -4,7 +4,7 @@ use Rattle.mmdb_cmd_enrich.specs.Stretches.{AreAsked}
 use Rattle.mmdb_cmd_enrich.specs.Tasks.{AreCellsAsked}
 use Rattle.mmdb_cmd_enrich.specs.Template.{Template}
 use Rattle.mmdb_cmd_enrich.specs.declared.header.Columns.{Columns}
-use Rattle.mmdb_cmd_enrich.proofs.CopiedLaws.{rows_copied, on_ok}
+use Rattle.mmdb_cmd_enrich.proofs.CopiedLaws.{rows_copied, on_both}
 use Rattle.mmdb_cmd_enrich.proofs.lines.copy_all_rows.Goals as goal
 
 pub returns : goal.returns
@@ -18,7 +18,7 @@ returns g c =
     let now = g.O.Write.contents c.copy_mark.new.out.out.now in
     let then = g.O.Write.contents c.columns_of_input.new.out.out.now in
     let new = g.O.Write.contents c.copy_columns.new.console.out.now.out.now in
-    on_ok c.copy_columns.result
+    on_both c.copy_columns.result
     (rows_copied c.args.passage.now.rows c.args.task.now are c.in_ok-columns.columns input mid next left old now then new c.args.passage.now.counts c.copy_columns.new.passage.counts
     c.in_ok-copy_mark.ensures c.in_ok-columns.ensures.passed c.in_ok-columns.ensures.columns)
     c.copy_columns.ensures.whole c.copy_columns.ensures.end

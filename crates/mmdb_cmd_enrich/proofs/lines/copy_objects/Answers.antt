@@ -45,7 +45,7 @@ returns-in_err-enrich_json-clause-begun g c =
     let kept : c.args.passage.now.reloads ≡ false → dbs ≡ c.args.databases.now.items =
     λ no. c.as_slice.ensures.value ∙ ap (λ d. d.items) (c.take_new.ensures.kept (c.loop.invariant.reloads ∙ no)) ∙ c.loop.invariant.kept no in
     let (template, is, begun) = c.in_err-enrich_json.ensures.begun in
-    let asked : IsMemberAsked c.args.arguments.now template = member_asked c.args.arguments.now c.in_ok-task.task template c.in_ok-task.ensures.reading c.in_ok-task.ensures.nulls c.in_ok-task.ensures.name is in
+    let asked : IsMemberAsked c.args.arguments.now template = member_asked c.args.arguments.now c.in_ok-task.task template c.in_ok-task.ensures.reading c.in_ok-task.ensures.nulls c.in_ok-task.ensures.name c.in_ok-task.ensures.network is in
     let then : IsBegun rows (additions_of template dbs) mid now new = begun_at c.take_new.new.passage.rows rows (additions_of template dbs) mid (g.O.Write.contents c.take_new.new.console.out.now.out.now) now new same_rows same_output begun in
     on_any_err c.from_residual-in_err-enrich_json.result (enriched_begun rows are template dbs input mid old now new c.args.passage.now.counts c.loop.passage.counts (asked, kept) c.loop.invariant.way then)
 
@@ -66,7 +66,7 @@ returns-then-branch-clause-whole g c =
     let kept : c.args.passage.now.reloads ≡ false → dbs ≡ c.args.databases.now.items =
     λ no. c.as_slice.ensures.value ∙ ap (λ d. d.items) (c.take_new.ensures.kept (c.loop.invariant.reloads ∙ no)) ∙ c.loop.invariant.kept no in
     let (template, is, whole) = c.in_ok-enrich_json.ensures.whole in
-    let asked : IsMemberAsked c.args.arguments.now template = member_asked c.args.arguments.now c.in_ok-task.task template c.in_ok-task.ensures.reading c.in_ok-task.ensures.nulls c.in_ok-task.ensures.name is in
+    let asked : IsMemberAsked c.args.arguments.now template = member_asked c.args.arguments.now c.in_ok-task.task template c.in_ok-task.ensures.reading c.in_ok-task.ensures.nulls c.in_ok-task.ensures.name c.in_ok-task.ensures.network is in
     let then : IsFiltered rows (additions_of template dbs) mid left now new c.loop.passage.counts after =
     filtered_at c.take_new.new.passage.rows rows (additions_of template dbs) mid left (g.O.Write.contents c.take_new.new.console.out.now.out.now) now new c.take_new.new.passage.counts c.loop.passage.counts after same_rows same_output c.take_new.ensures.counts whole in
     let way = enriched_then rows are template dbs input mid left old now new c.args.passage.now.counts c.loop.passage.counts after (asked, kept) c.loop.invariant.way then in
@@ -99,7 +99,7 @@ loop-preserved g c =
     let kept : c.args.passage.now.reloads ≡ false → dbs ≡ c.args.databases.now.items =
     λ no. c.as_slice.ensures.value ∙ ap (λ d. d.items) (c.take_new.ensures.kept (c.loop.invariant.reloads ∙ no)) ∙ c.loop.invariant.kept no in
     let (template, is, whole) = c.in_ok-enrich_json.ensures.whole in
-    let asked : IsMemberAsked c.args.arguments.now template = member_asked c.args.arguments.now c.in_ok-task.task template c.in_ok-task.ensures.reading c.in_ok-task.ensures.nulls c.in_ok-task.ensures.name is in
+    let asked : IsMemberAsked c.args.arguments.now template = member_asked c.args.arguments.now c.in_ok-task.task template c.in_ok-task.ensures.reading c.in_ok-task.ensures.nulls c.in_ok-task.ensures.name c.in_ok-task.ensures.network is in
     let then : IsFiltered rows (additions_of template dbs) mid left now new c.loop.passage.counts after =
     filtered_at c.take_new.new.passage.rows rows (additions_of template dbs) mid left (g.O.Write.contents c.take_new.new.console.out.now.out.now) now new c.take_new.new.passage.counts c.loop.passage.counts after same_rows same_output c.take_new.ensures.counts whole in
     let way = enriched_then rows are template dbs input mid left old now new c.args.passage.now.counts c.loop.passage.counts after (asked, kept) c.loop.invariant.way then in
