@@ -1,5 +1,5 @@
 -- What is made of the arguments is what they ask for.
-use Rattle.std.proofs.Common.{◌≡◌, ℕ, List, Option, Bool, sym, ap, ◌∙◌}
+use Rattle.std.proofs.Common.{◌≡◌, ℕ, List, Option, Bool, ◌∙◌}
 use Rattle.mmdb_addresses.specs.declared.readings.Reading.{Reading}
 use Rattle.mmdb_arguments.specs.declared.request.EnrichArguments.{EnrichArguments}
 use Rattle.mmdb_filter.specs.declared.rows.Rows.{Rows}

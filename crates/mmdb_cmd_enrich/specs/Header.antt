@@ -11,6 +11,7 @@ use Rattle.mmdb_cmd_enrich.specs.Columns.{HasBreaks, delimiter_of}
 use Rattle.mmdb_cmd_enrich.specs.declared.header.Columns.{Columns}
 use Rattle.mmdb_cmd_enrich.specs.declared.task.Column.{Column}
 use Rattle.mmdb_cmd_enrich.specs.declared.task.Column.TheVariants.{Number, Name}
+use Rattle.mmdb_cmd_enrich.specs.declared.task.RowsTask.{RowsTask}
 
 -- a name as a cell
 abbrev pub name_cell : Rows → List ℕ → List ℕ
@@ -50,8 +51,12 @@ abbrev pub AreColumnsOf : Bool → Rows → Column → List ℕ → Columns → 
 AreColumnsOf true rows column xs columns = row_from rows Cell xs ≢ [] → AreNamedBy rows column (row_from rows Cell xs) columns
 AreColumnsOf false rows column xs columns = IsAddressIn column columns.address × (columns.breaks ≡ None)
 
+-- what the columns are called that a task asks for
+abbrev pub names_in : RowsTask → List (List ℕ)
+names_in task = map (λ name. name.now) task.names.items
+
 -- Where the bytes of the input are known, it lost the first row where that names the columns, and known output grew by it with these
 -- names.
-abbrev pub IsHeaderPassed : Bool → Rows → List (List ℕ) → Option (List ℕ) → Option (List ℕ) → Option (List ℕ) → Option (List ℕ) → Type 0
-IsHeaderPassed is_header rows names input left old new =
-    IfSome input (λ xs. (left ≡ Some (behind_header is_header rows xs)) × Appends old new (header_text is_header rows names xs))
+abbrev pub IsHeaderPassed : Bool → RowsTask → Option (List ℕ) → Option (List ℕ) → Option (List ℕ) → Option (List ℕ) → Type 0
+IsHeaderPassed is_header task input left old new =
+    IfSome input (λ xs. (left ≡ Some (behind_header is_header task.rows xs)) × Appends old new (header_text is_header task.rows (names_in task) xs))

@@ -5,7 +5,7 @@ ghost use Rattle.mmdb_filter.specs.Lines.{row_with, text_length};
 ghost use Rattle.mmdb_filter.specs.Rows.{row_from, rows_after};
 ghost use Rattle.mmdb_filter.specs.declared.rows.RowPosition.TheVariants.{Cell};
 ghost use Rattle.mmdb_cmd_enrich.specs.Columns.{delimiter_of as spec_delimiter_of};
-ghost use Rattle.mmdb_cmd_enrich.specs.Header.{AreColumnsOf, AreNamedBy, IsAddressIn, IsHeaderPassed, name_cell, name_cells};
+ghost use Rattle.mmdb_cmd_enrich.specs.Header.{AreColumnsOf, AreNamedBy, IsAddressIn, IsHeaderPassed, name_cell, name_cells, names_in};
 
 use crate::columns::{breaks_in, delimiter_of};
 use crate::output::put;
@@ -219,8 +219,8 @@ fn write_header<O: Write>(
     header: &mut Vec<u8>,
     out: &mut O,
 ) -> Result<Columns, ProgramError>
-    ensures written { OnOk result (Appends (O.contents out.old) (O.contents out.new) (row_with
-        header.old.items (name_cells task.now.rows (map (λ name. name.now) task.now.names.items)) 0)) }
+    ensures written { OnOk result (Appends (O.contents out.old) (O.contents out.new)
+        (row_with header.old.items (name_cells task.now.rows (names_in task.now)) 0)) }
     ensures columns { IfOk result (AreNamedBy task.now.rows task.now.column header.old.items) }
 {
     let address = place_of(alloc, task.rows, task.column, header.as_slice())?;
@@ -238,8 +238,7 @@ fn copy_header<I: BufRead, O: Write>(
     input: &mut I,
     out: &mut O,
 ) -> Result<Columns, ProgramError>
-    ensures passed { OnOk result (IsHeaderPassed
-        true task.now.rows (map (λ name. name.now) task.now.names.items)
+    ensures passed { OnOk result (IsHeaderPassed true task.now
         (I.remaining input.old) (I.remaining input.new) (O.contents out.old) (O.contents out.new)) }
     ensures columns { IfOk result (λ columns. IfSome (I.remaining input.old)
         (λ xs. AreColumnsOf true task.now.rows task.now.column xs columns)) }
@@ -261,8 +260,7 @@ pub(crate) fn columns_of_input<I: BufRead, O: Write>(
     input: &mut I,
     out: &mut O,
 ) -> Result<Columns, ProgramError>
-    ensures passed { OnOk result (IsHeaderPassed
-        task.now.header task.now.rows (map (λ name. name.now) task.now.names.items)
+    ensures passed { OnOk result (IsHeaderPassed task.now.header task.now
         (I.remaining input.old) (I.remaining input.new) (O.contents out.old) (O.contents out.new)) }
     ensures columns { IfOk result (λ columns. IfSome (I.remaining input.old)
         (λ xs. AreColumnsOf task.now.header task.now.rows task.now.column xs columns)) }

@@ -607,7 +607,8 @@ fn copy_all_rows<R: Files + Clock, I: Live, O: Write, E: Pace>(
     ensures { OnOk result (AreRowsCopied passage.old.rows task.now
         (λ columns. AreAsked passage.old.reloads databases.old.items
         (AreCellsAsked arguments.now columns)) (I.remaining input.old)
-        (O.contents console.old.out.now.out.now) (O.contents console.new.out.now.out.now)) }
+        (O.contents console.old.out.now.out.now) (O.contents console.new.out.now.out.now)
+        passage.old.counts passage.new.counts) }
 {
     copy_mark(input, console.out)?;
     let columns = columns_of_input(console.alloc, task, input, console.out)?;
@@ -637,7 +638,8 @@ fn copy_all_objects<R: Files + Clock, I: Live, O: Write, E: Pace>(
     ensures { OnOk result (AreAllCopied passage.old.rows
         (AreAsked passage.old.reloads databases.old.items (IsMemberAsked arguments.now))
         (I.remaining input.old)
-        (O.contents console.old.out.now.out.now) (O.contents console.new.out.now.out.now)) }
+        (O.contents console.old.out.now.out.now) (O.contents console.new.out.now.out.now)
+        passage.old.counts passage.new.counts) }
 {
     copy_mark(input, console.out)?;
     let bytes = Cell::new(0);

@@ -1,4 +1,4 @@
-use Rattle.std.proofs.Common.{rules, ◌≡◌, ◌≢◌, ◌<◌, ◌++◌, [], List, ℕ, Some, IfSome, length, sym, ap, ◌∙◌, subst, arith}
+use Rattle.std.proofs.Common.{rules, ◌≡◌, ◌≢◌, ◌<◌, ◌++◌, Some, IfSome, length, sym, ap, ◌∙◌, subst, arith}
 use Rattle.mmdb_filter.specs.Rows.{row_from, rows_after}
 use Rattle.mmdb_filter.specs.declared.rows.RowPosition.TheVariants.{Cell, Ended}
 use Rattle.mmdb_cmd_enrich.proofs.HeaderLaws.{first_read}

@@ -1,8 +1,7 @@
-use Rattle.std.proofs.Common.{◌≡◌, refl, sym, ap, ◌∙◌, subst, false, map}
+use Rattle.std.proofs.Common.{◌≡◌, refl, sym, ap, ◌∙◌, subst, false}
 use Rattle.mmdb_filter.specs.Lines.{IsFiltered, IsBegun}
 use Rattle.mmdb_cmd_enrich.specs.Stretches.{AreAsked, IsEnriched, additions_of}
 use Rattle.mmdb_cmd_enrich.specs.Tasks.{IsMemberAsked}
-use Rattle.mmdb_cmd_enrich.specs.Template.{cells, Template}
 use Rattle.mmdb_cmd_enrich.proofs.StretchLaws.{none_enriched, enriched_then, enriched_begun, enriched_front, enriched_end, filtered_at, begun_at, on_any_err}
 use Rattle.mmdb_cmd_enrich.proofs.TaskLaws.{member_asked}
 use Rattle.mmdb_cmd_enrich.proofs.lines.copy_objects.Goals as goal

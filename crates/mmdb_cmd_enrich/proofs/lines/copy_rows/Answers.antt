@@ -1,4 +1,4 @@
-use Rattle.std.proofs.Common.{◌≡◌, refl, sym, subst, ◌∙◌}
+use Rattle.std.proofs.Common.{refl, sym, subst, ◌∙◌}
 use Rattle.mmdb_filter.specs.Lines.{IsFiltered, IsBegun}
 use Rattle.mmdb_cmd_enrich.proofs.StretchLaws.{none_filtered, filtered_then, begun_then, begun_by, end_then, on_any_err}
 use Rattle.mmdb_cmd_enrich.proofs.lines.copy_rows.Goals as goal
