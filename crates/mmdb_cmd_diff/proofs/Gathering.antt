@@ -691,3 +691,17 @@ module _ (left : List Coming) (first now next : SoFar) (before after : Abreast) 
       → IsAlong left first next after a c
   along-part (StretchPart part) step on few = along-stretch left first now next before after a b c along same part step on few
   along-part (UnreadPart place) step on few = along-unread left first now next before after a b c along same place step on few
+
+pub compared-in : (sections others : Sections) (dbs : List Database) (left : List Coming) → others.in_old ≡ sections.in_old → others.in_new ≡ sections.in_new → AreCompared sections dbs left
+    → AreCompared others dbs left
+compared-in sections others dbs left old new h = record {
+  old = h.old;
+  new = h.new;
+  range = h.range;
+  databases_are = h.databases_are;
+  left_is = h.left_is;
+  can_ask_old = h.can_ask_old;
+  can_ask_new = h.can_ask_new;
+  in_old = old ∙ h.in_old;
+  in_new = new ∙ h.in_new;
+}

@@ -1,5 +1,5 @@
 //! What changed between two files.
-ghost use Rattle.std.specs.Prelude.{◌≡◌, ◌≤◌, ◌+◌, ◌<◌, ◌^◌, ◌⊎◌, ℕ, Bool, List, Option, Some, None, true, false, length, is_some, get_or, slice_get, min, [], ◌∷◌, ◌++◌, ◌-◌, IfOk, IfSome, IfNone, OnOk, IsSomeAnd, unwrap_or};
+ghost use Rattle.std.specs.Prelude.{◌≡◌, ◌+◌, ◌<◌, ◌^◌, ◌⊎◌, ℕ, List, Option, Some, None, true, false, length, get_or, slice_get, min, [], ◌∷◌, ◌++◌, ◌-◌, IfOk, IfSome, IfNone, OnOk, IsSomeAnd, unwrap_or};
 ghost use Rattle.std.specs.Io.KnownBytes.{Keeps};
 ghost use Rattle.std.specs.Option.{ForSome};
 ghost use Rattle.mmdb_reader.specs.Found.{section_asked};
@@ -772,11 +772,13 @@ fn compare_all<'r, O: Write, E: Pace>(
     out: &mut O,
     reports: &mut Reports<'_, '_, E>,
 ) -> Result<(), ProgramError>
+    requires compared { AreCompared so_far.old.pairs.shown.sections together.old.databases
+        together.old.left }
+    requires so_far { AreSoFar together.old.left so_far.old }
+    requires few { length so_far.old.waiting.stretches.items < 64 }
+    requires at { together.old.at ≡ 0 }
     // Each address of which it is known what both have, where one has a record, is in a true line, or left out.
-    ensures told { let left = together.old.left in
-        AreCompared so_far.old.pairs.shown.sections together.old.databases left
-        → AreSoFar left so_far.old → length so_far.old.waiting.stretches.items < 64
-        → together.old.at ≡ 0 → OnOk result (TellsAll so_far.old.pairs.layout.now
+    ensures told { let left = together.old.left in OnOk result (TellsAll so_far.old.pairs.layout.now
         so_far.old.pairs.shown (both_of left) (IsShownAt left)
         (IsLeftOut so_far.old.kinds so_far.old.pairs.shown (both_of left))
         (O.contents out.old) (O.contents out.new)) }
@@ -825,7 +827,13 @@ fn compare_with<'a, 'r, O: Write, E: Pace>(
     together: &mut Together<'r, Vec<u8>>,
     so_far: &mut SoFar<'a, 'r>,
     console: &mut Console<'_, O, E>,
-) -> Result<u8, ProgramError> {
+) -> Result<u8, ProgramError>
+    requires compared { AreCompared so_far.old.pairs.shown.sections together.old.databases
+        together.old.left }
+    requires so_far { AreSoFar together.old.left so_far.old }
+    requires few { length so_far.old.waiting.stretches.items < 64 }
+    requires at { together.old.at ≡ 0 }
+{
     put_names(console.alloc, &task.layout, console.out)?;
     let mut nowhere = io::sink();
     let (out, errors) = apart(console, &mut nowhere);
@@ -852,7 +860,13 @@ fn compare<'a, 'r, O: Write, E: Pace>(
     databases: &'r TwoDatabases,
     together: &mut Together<'r, Vec<u8>>,
     console: &mut Console<'_, O, E>,
-) -> Result<u8, ProgramError> {
+) -> Result<u8, ProgramError>
+    requires compared { AreCompared (record {
+      in_old = data_section databases.now.old;
+      in_new = data_section (unwrap_or databases.now.other databases.now.old);
+    }) together.old.databases together.old.left }
+    requires at { together.old.at ≡ 0 }
+{
     let mut so_far = SoFar::new(console.alloc, task, databases)?;
     let done = compare_with(task, together, &mut so_far, console);
     drop(so_far);

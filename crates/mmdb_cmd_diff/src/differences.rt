@@ -12,7 +12,7 @@ ghost use Rattle.mmdb_cmd_diff.specs.Alike.{AreAlikeIn, AreAlike, IsOfAlike, Are
 ghost use Rattle.mmdb_cmd_diff.specs.Lines.{WritesLine, WritesNone, line_of, line_with, front_of, is_of_output, shows_records as spec_shows_records};
 ghost use Rattle.mmdb_cmd_diff.specs.Seen.{HaveOneValueAt, AreSeenSame, AreKeptAsSeen};
 ghost use Rattle.mmdb_cmd_diff.specs.Shown.{IsShown};
-ghost use Rattle.mmdb_cmd_diff.specs.Showing.{IsNumberOf, IsShownFor, IsShownPair, offset_at};
+ghost use Rattle.mmdb_cmd_diff.specs.Showing.{IsNumberOf, IsShownPair, offset_at};
 
 use crate::shown::{ShownPair, ShownPairs, number_of};
 use crate::texts::BothTexts;
@@ -118,8 +118,8 @@ fn record_text_at(
 
 // The text of a record that was read, or of no record.
 fn text_or_null(alloc: Global, value: &Option<Value<'_>>) -> Result<Vec<u8>, AllocError>
-    ensures text { (s : List ℕ) (offset : Option ℕ) → IsRead s offset (option_map value_tree value.now)
-        → IfOk result (λ text. IsShown s offset text.items) }
+    ensures text { (s : List ℕ) (offset : Option ℕ)
+        → IsRead s offset (option_map value_tree value.now) → IfOk result (λ text. IsShown s offset text.items) }
 {
     match value {
         Some(value) => compact(alloc, value),
@@ -254,11 +254,11 @@ fn is_shown_as<'r>(
     old: &Option<Value<'r>>,
     new: &Found<'r>,
 ) -> Result<bool, UnreadableValue>
-    ensures same { (s : Sections) (at : Option ℕ) → IsRead s.in_old at (option_map value_tree old.now)
-        → section_asked new.now ≡ s.in_new → IfOk result
+    ensures same { (s : Sections) (at : Option ℕ)
+        → IsRead s.in_old at (option_map value_tree old.now) → section_asked new.now ≡ s.in_new → IfOk result
         (λ is_same. is_same ≡ true → AreAlikeIn s at (offset_found new.now)) }
-    ensures failed { (s : Sections) (at : Option ℕ) → section_asked new.now ≡ s.in_new → IfErr result
-        (λ u. MemoryApart u.error (IsUnreadableOn s at (offset_found new.now) u.side)) }
+    ensures failed { (s : Sections) (at : Option ℕ) → section_asked new.now ≡ s.in_new
+        → IfErr result (λ u. MemoryApart u.error (IsUnreadableOn s at (offset_found new.now) u.side)) }
 {
     let new = record_in(alloc, Side::New, new)?;
     let is_same = if are_equal(old, &new) {
@@ -276,11 +276,11 @@ fn are_same_values<'r>(
     old: &Found<'r>,
     new: &Found<'r>,
 ) -> Result<bool, UnreadableValue>
-    ensures same { (s : Sections) → section_asked old.now ≡ s.in_old → section_asked new.now ≡ s.in_new
-        → IfOk result (λ is_same. is_same ≡ true
+    ensures same { (s : Sections) → section_asked old.now ≡ s.in_old
+        → section_asked new.now ≡ s.in_new → IfOk result (λ is_same. is_same ≡ true
         → AreAlikeIn s (offset_found old.now) (offset_found new.now)) }
-    ensures failed { (s : Sections) → section_asked old.now ≡ s.in_old → section_asked new.now ≡ s.in_new
-        → IfErr result (λ u. MemoryApart u.error
+    ensures failed { (s : Sections) → section_asked old.now ≡ s.in_old
+        → section_asked new.now ≡ s.in_new → IfErr result (λ u. MemoryApart u.error
         (IsUnreadableOn s (offset_found old.now) (offset_found new.now) u.side)) }
 {
     let old = record_in(alloc, Side::Old, old)?;
@@ -447,7 +447,8 @@ impl<'a, 'r> Pairs<'a, 'r> {
     /// Says of two records that are kept as the same that they came last.
     pub(crate) fn keep_last(&mut self, offsets: Option<Offsets>)
         ensures kept { AreKeptAlike self.old.shown self.old.kept
-            → ForSome offsets (IsOfAlike self.old.shown) → AreKeptAlike self.old.shown self.new.kept }
+            → ForSome offsets (IsOfAlike self.old.shown)
+            → AreKeptAlike self.old.shown self.new.kept }
         ensures shown { self.new.shown ≡ self.old.shown }
         ensures layout { self.new.layout ≡ self.old.layout }
     {
