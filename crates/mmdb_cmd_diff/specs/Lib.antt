@@ -6,3 +6,4 @@ pub mod Alike
 pub mod Lines
 pub mod Walked
 pub mod Comparing
+pub mod Counts
