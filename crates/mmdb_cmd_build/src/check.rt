@@ -1,8 +1,8 @@
 //! A file that was made, compared with the rows.
 use crate::kept::{KeptRows, Print, print_of};
 use crate::pieces::{Piece, Pieces, last_of};
-use mmdb_blocks::Block;
-use mmdb_layout::{Database, Found, Networks};
+use mmdb_layout::{Database, Found};
+use mmdb_query::{Answer, One, Walk};
 use mmdb_reader::{MaxMindDbError, WithinOptions};
 use mmdb_value::Value;
 use std::alloc::Global;
@@ -19,7 +19,7 @@ struct FileNetwork {
 /// The networks of a file, one after another.
 #[derive(Drop)]
 struct FileNetworks<'r> {
-    networks: Networks<'r>,
+    networks: One<'r, Vec<u8>>,
     /// What the records at offsets are.
     prints: HashMap<usize, Print>,
     /// The network that is at hand, none after the last.
@@ -55,7 +55,7 @@ fn answer_of(
     let Some(offset) = found.offset() else {
         return Ok(None);
     };
-    let block = Block::of_network(found.network()?);
+    let block = found.block().block;
     let print = print_at(alloc, found, offset, prints)?;
     Ok(Some(FileNetwork {
         first: block.first,
@@ -67,7 +67,7 @@ fn answer_of(
 impl FileNetworks<'_> {
     // Goes on to the next network, or past the last.
     fn step(&mut self, alloc: Global) -> Result<(), MaxMindDbError> {
-        self.here = match self.networks.next() {
+        self.here = match self.networks.next_item() {
             Some(Ok(found)) => answer_of(alloc, &found, &mut self.prints)?,
             Some(Err(error)) => return Err(error),
             None => None,
@@ -150,7 +150,7 @@ pub(crate) fn first_difference(
 ) -> Result<Option<u128>, MaxMindDbError> {
     database.verify(alloc)?;
     let mut answers = FileNetworks {
-        networks: database.networks(alloc, WithinOptions::default())?,
+        networks: One::new(database.networks(alloc, WithinOptions::default())?),
         prints: HashMap::new(alloc),
         here: None,
     };

@@ -1,3 +1,7 @@
 mod Seeing
 mod Showing
 mod Telling
+mod Walking
+mod Liking
+mod Gathering
+mod Changed

@@ -73,7 +73,7 @@ shown_at s other at offset place v text same here is read compact =
 
 -- ---- numbers of pairs
 
-one_kept : (a b : Option ℕ) (n : ℕ) → IsKeptAs a n → IsKeptAs b n → a ≡ b
+pub one_kept : (a b : Option ℕ) (n : ℕ) → IsKeptAs a n → IsKeptAs b n → a ≡ b
 one_kept None None n p q = refl
 one_kept None (Some y) n p q = absurd (omega (arith, p, q.0, q.1))
 one_kept (Some x) None n p q = absurd (omega (arith, p.0, p.1, q))

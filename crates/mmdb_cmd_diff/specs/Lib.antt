@@ -2,4 +2,8 @@
 pub mod Seen
 pub mod Shown
 pub mod Showing
+pub mod Alike
 pub mod Lines
+pub mod Walked
+pub mod Comparing
+pub mod Counts

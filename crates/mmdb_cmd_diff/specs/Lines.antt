@@ -1,5 +1,5 @@
 -- The lines of differences, and what each both of its addresses.
-use Rattle.std.specs.Prelude.{◌≡◌, ℕ, Bool, true, false, List, [], ◌∷◌, ◌++◌, Option, Some, None, codes}
+use Rattle.std.specs.Prelude.{◌≡◌, ℕ, Bool, true, false, List, [], ◌∷◌, ◌++◌, ◌⊎◌, Option, Some, None, codes}
 use Rattle.std.specs.List.{All}
 use Rattle.std.specs.Io.KnownBytes.{Appends}
 use Rattle.mmdb_net.specs.Network.{short_text_of}
@@ -74,26 +74,48 @@ abbrev pub IsTold : Showing → Both → Bool → ShownPair → ℕ → Type 0
 IsTold showing both is_ipv4 shown address =
     IsShownPair showing (both is_ipv4 address).0 (both is_ipv4 address).1 shown
 
--- A line both of each address of its block what both have there.
-pub record IsTrueLine (layout : Layout) (showing : Showing) (both : Both) (text : List ℕ) : Type 0 where
+-- a line: the addresses that it is of, those of IPv4 or not, and its text
+pub record Line : Type 0 where
   pub is_ipv4 : Bool
   pub block : Block
+  pub text : List ℕ
+
+-- It says of each of its addresses what both databases have there.
+pub record IsTrueLine (layout : Layout) (showing : Showing) (both : Both) (line : Line) : Type 0 where
   pub shown : ShownPair
   pub network : IpNetwork
-  pub is_network : IsNetworkOf (kind_of is_ipv4) block network
-  pub is_line : IsLine layout network shown text
-  pub told : (address : ℕ) → IsWithin address block → IsTold showing both is_ipv4 shown address
+  pub is_network : IsNetworkOf (kind_of line.is_ipv4) line.block network
+  pub is_line : IsLine layout network shown line.text
+  pub told : (address : ℕ) → IsWithin address line.block → IsTold showing both line.is_ipv4 shown address
 
 -- some such lines, one after another
-abbrev pub AreTrueLines : Layout → Showing → Both → List (List ℕ) → List ℕ → Type 0
+abbrev pub AreTrueLines : Layout → Showing → Both → List Line → List ℕ → Type 0
 AreTrueLines layout showing both [] text = text ≡ []
 AreTrueLines layout showing both (line ∷ lines) text =
-    (rest : List ℕ) × IsTrueLine layout showing both line × AreTrueLines layout showing both lines rest × (text ≡ line ++ rest)
+    (rest : List ℕ) × IsTrueLine layout showing both line × AreTrueLines layout showing both lines rest × (text ≡ line.text ++ rest)
 
--- known output grows by such lines
-abbrev pub Tells : Layout → Showing → Both → Option (List ℕ) → Option (List ℕ) → Type 0
-Tells layout showing both before after =
-    (lines : List (List ℕ)) × (text : List ℕ) × AreTrueLines layout showing both lines text × Appends before after text
+-- an address is in a block of addresses of its kind
+abbrev pub IsInBlock : Bool → Block → Bool → ℕ → Type 0
+IsInBlock kind block is_ipv4 address = (kind ≡ is_ipv4) × IsWithin address block
+
+-- it is in one of some lines
+abbrev pub IsInLines : List Line → Bool → ℕ → Type 0
+IsInLines [] is_ipv4 address = ⊥
+IsInLines (line ∷ lines) is_ipv4 address = IsInBlock line.is_ipv4 line.block is_ipv4 address ⊎ IsInLines lines is_ipv4 address
+
+-- Known output grows by true lines, and each address that is due is in one of them, or still waits.
+abbrev pub Tells : Layout → Showing → Both → (Bool → ℕ → Type 0) → (Bool → ℕ → Type 0) → Option (List ℕ) → Option (List ℕ) → Type 0
+Tells layout showing both due waiting before after =
+    (lines : List Line) × (text : List ℕ) × AreTrueLines layout showing both lines text × Appends before after text
+    × ((is_ipv4 : Bool) (address : ℕ) → due is_ipv4 address → IsInLines lines is_ipv4 address ⊎ waiting is_ipv4 address)
+
+-- no address
+abbrev pub none : Bool → ℕ → Type 0
+none is_ipv4 address = ⊥
+
+-- those of a stretch, beside others
+abbrev pub with_stretch : TogetherStretch → (Bool → ℕ → Type 0) → Bool → ℕ → Type 0
+with_stretch stretch others is_ipv4 address = others is_ipv4 address ⊎ IsInBlock stretch.is_ipv4 stretch.block is_ipv4 address
 
 -- a block of a stretch has both records at each of its addresses
 abbrev pub HasThere : Both → TogetherStretch → Option ℕ → Option ℕ → Type 0
@@ -165,6 +187,14 @@ Joins old block new = (pushed handed : List Block) → IsJoining pushed handed (
 abbrev pub IsRunIf : Showing → Both → Option ShownRun → List Block → Type 0
 IsRunIf showing both None waiting = IsJoining [] [] waiting
 IsRunIf showing both (Some run) waiting = IsRunOf showing both run waiting
+
+-- the addresses of the blocks that wait
+abbrev pub in_run : Option ShownRun → List Block → Bool → ℕ → Type 0
+in_run None waiting is_ipv4 address = ⊥
+in_run (Some run) waiting is_ipv4 address = (run.is_ipv4 ≡ is_ipv4) × IsIn address waiting
+
+abbrev pub waiting_in : Changes → Bool → ℕ → Type 0
+waiting_in changes = in_run changes.run (waiting_of changes.joiner)
 
 abbrev pub AreWaiting : Showing → Both → Changes → Type 0
 AreWaiting showing both changes = IsRunIf showing both changes.run (waiting_of changes.joiner)

@@ -1,9 +1,9 @@
 //! What differs, written as the fewest networks: neighbours with the same two values are joined.
-ghost use Rattle.std.specs.Prelude.{◌≡◌, true, false, None, IfOk, IfErr, IfSome, OnOk, IsSomeAnd};
+ghost use Rattle.std.specs.Prelude.{◌≡◌, Bool, ℕ, true, false, None, IfOk, IfErr, IfSome, OnOk, IsSomeAnd};
 ghost use Rattle.mmdb_blocks.specs.Joining.{settled_of, waiting_of};
 ghost use Rattle.mmdb_blocks.specs.Kinds.{IsNetworkOf};
 ghost use Rattle.mmdb_cmd_diff.specs.Showing.{Showing, IsShownPair, offset_at, offset_in};
-ghost use Rattle.mmdb_cmd_diff.specs.Lines.{WritesNone, is_of_output, kind_of as spec_kind_of, kind_of_run, WritesOf, WritesBlock, WritesBlocks, Both, HasThere, Joins, Tells, AreWaiting, GoesOnAs, GoesOnWith};
+ghost use Rattle.mmdb_cmd_diff.specs.Lines.{WritesNone, is_of_output, kind_of as spec_kind_of, kind_of_run, WritesOf, WritesBlock, WritesBlocks, Both, HasThere, Joins, Tells, AreWaiting, GoesOnAs, GoesOnWith, none, with_stretch, waiting_in};
 
 use crate::counts::{ABSENT, ChangeCounts, Presence};
 use crate::differences::{FoundInBoth, PairOfNetwork, Pairs, put_difference};
@@ -186,6 +186,7 @@ impl<'r> Changes<'r> {
         ensures joiner { self.new.joiner ≡ self.old.joiner }
         ensures shown { pairs.exit.now.shown ≡ pairs.entry.now.shown }
         ensures layout { pairs.exit.now.layout ≡ pairs.entry.now.layout }
+        ensures kept { pairs.exit.now.kept ≡ pairs.entry.now.kept }
     {
         match self.try_network(network, pairs.layout, out) {
             Err(error) if is_memory(&error) => {
@@ -210,6 +211,7 @@ impl<'r> Changes<'r> {
         ensures joiner { self.new.joiner ≡ self.old.joiner }
         ensures shown { pairs.exit.now.shown ≡ pairs.entry.now.shown }
         ensures layout { pairs.exit.now.layout ≡ pairs.entry.now.layout }
+        ensures kept { pairs.exit.now.kept ≡ pairs.entry.now.kept }
     {
         let network = self.network_of(block)?;
         let presence = self.presence_at(block.first);
@@ -229,6 +231,7 @@ impl<'r> Changes<'r> {
         ensures joiner { self.new.joiner ≡ self.old.joiner }
         ensures shown { pairs.exit.now.shown ≡ pairs.entry.now.shown }
         ensures layout { pairs.exit.now.layout ≡ pairs.entry.now.layout }
+        ensures kept { pairs.exit.now.kept ≡ pairs.entry.now.kept }
     {
         for index in 0..self.joiner.settled().len() {
             let block = self.joiner.settled()[index];
@@ -245,15 +248,16 @@ impl<'r> Changes<'r> {
     ) -> Result<(), ProgramError>
         ensures written { OnOk result (WritesBlocks pairs.entry.now.layout.now self.old.run
             (waiting_of self.old.joiner) (O.contents out.old) (O.contents out.new)) }
-        // Whatever both databases have: where what waits says so, what is written says so.
+        // Whatever both databases have: where what waits says so, what is written says so, of each address that waits.
         ensures told { (both : Both) → AreWaiting pairs.entry.now.shown both self.old → OnOk result
-            (Tells pairs.entry.now.layout.now pairs.entry.now.shown both
+            (Tells pairs.entry.now.layout.now pairs.entry.now.shown both (waiting_in self.old) none
             (O.contents out.old) (O.contents out.new)) }
         ensures waiting { (both : Both) → AreWaiting pairs.entry.now.shown both self.old
             → OnOk result (AreWaiting pairs.entry.now.shown both self.new) }
         ensures run { self.new.run ≡ None }
         ensures shown { pairs.exit.now.shown ≡ pairs.entry.now.shown }
         ensures layout { pairs.exit.now.layout ≡ pairs.entry.now.layout }
+        ensures kept { pairs.exit.now.kept ≡ pairs.entry.now.kept }
     {
         if self.run.is_none() {
             return Ok(());
@@ -297,6 +301,7 @@ impl<'r> Changes<'r> {
     ) -> Result<(), ProgramError>
         ensures told { (both : Both) → AreWaiting pairs.entry.now.shown both self.old → OnOk result
             (Tells pairs.entry.now.layout.now pairs.entry.now.shown both
+            (waiting_in self.old) (waiting_in self.new)
             (O.contents out.old) (O.contents out.new)) }
         ensures waiting { (both : Both) → AreWaiting pairs.entry.now.shown both self.old
             → OnOk result (AreWaiting pairs.entry.now.shown both self.new) }
@@ -304,6 +309,7 @@ impl<'r> Changes<'r> {
             (IfSome self.new.run (GoesOnWith stretch.is_ipv4 shown.now)) }
         ensures shown { pairs.exit.now.shown ≡ pairs.entry.now.shown }
         ensures layout { pairs.exit.now.layout ≡ pairs.entry.now.layout }
+        ensures kept { pairs.exit.now.kept ≡ pairs.entry.now.kept }
     {
         if self.has_same_values(stretch, shown) {
             return Ok(());
@@ -317,6 +323,9 @@ impl<'r> Changes<'r> {
         ensures waiting { (showing : Showing) (both : Both) → AreWaiting showing both self.old
             → IsShownPair showing (offset_at answers.entry.old) (offset_at answers.entry.new)
             shown → AreWaiting showing both self.new }
+        ensures kept { (showing : Showing) (both : Both) → AreWaiting showing both self.old
+            → (is_ipv4 : Bool) (address : ℕ) → waiting_in self.old is_ipv4 address
+            → waiting_in self.new is_ipv4 address }
         ensures run { IsSomeAnd self.new.run (GoesOnAs stretch.is_ipv4
             (offset_at answers.entry.old) (offset_at answers.entry.new)) }
     {
@@ -339,6 +348,7 @@ impl<'r> Changes<'r> {
     ) -> Result<(), ProgramError>
         ensures told { (both : Both) → AreWaiting pairs.entry.now.shown both self.old → OnOk result
             (Tells pairs.entry.now.layout.now pairs.entry.now.shown both
+            (waiting_in self.old) (waiting_in self.new)
             (O.contents out.old) (O.contents out.new)) }
         ensures waiting { (both : Both) → AreWaiting pairs.entry.now.shown both self.old
             → OnOk result (AreWaiting pairs.entry.now.shown both self.new) }
@@ -346,6 +356,7 @@ impl<'r> Changes<'r> {
             (offset_at answers.entry.old) (offset_at answers.entry.new))) }
         ensures shown { pairs.exit.now.shown ≡ pairs.entry.now.shown }
         ensures layout { pairs.exit.now.layout ≡ pairs.entry.now.layout }
+        ensures kept { pairs.exit.now.kept ≡ pairs.entry.now.kept }
     {
         let shown = pairs.shown_by(self.alloc, answers)?;
         self.finish_others(stretch, &shown, pairs, out)?;
@@ -363,6 +374,7 @@ impl<'r> Changes<'r> {
     ) -> Result<(), ProgramError>
         ensures told { (both : Both) → AreWaiting pairs.entry.now.shown both self.old → OnOk result
             (Tells pairs.entry.now.layout.now pairs.entry.now.shown both
+            (waiting_in self.old) (waiting_in self.new)
             (O.contents out.old) (O.contents out.new)) }
         ensures waiting { (both : Both) → AreWaiting pairs.entry.now.shown both self.old
             → OnOk result (AreWaiting pairs.entry.now.shown both self.new) }
@@ -370,6 +382,7 @@ impl<'r> Changes<'r> {
             (offset_at answers.entry.old) (offset_at answers.entry.new))) }
         ensures shown { pairs.exit.now.shown ≡ pairs.entry.now.shown }
         ensures layout { pairs.exit.now.layout ≡ pairs.entry.now.layout }
+        ensures kept { pairs.exit.now.kept ≡ pairs.entry.now.kept }
     {
         if self.has_same_records(stretch, answers) {
             return Ok(());
@@ -390,8 +403,10 @@ impl<'r> Changes<'r> {
 
     // Notes the last address of the run.
     fn note_last(&mut self, last: u128)
-        ensures { (showing : Showing) (both : Both) → AreWaiting showing both self.old
+        ensures waiting { (showing : Showing) (both : Both) → AreWaiting showing both self.old
             → AreWaiting showing both self.new }
+        ensures kept { (is_ipv4 : Bool) (address : ℕ) → waiting_in self.old is_ipv4 address
+            → waiting_in self.new is_ipv4 address }
     {
         if let Some(run) = &mut self.run {
             run.last = last;
@@ -411,12 +426,14 @@ impl<'r> Changes<'r> {
         ensures told { (both : Both) → AreWaiting pairs.entry.now.shown both self.old
             → HasThere both stretch (offset_at answers.entry.old) (offset_at answers.entry.new)
             → OnOk result (Tells pairs.entry.now.layout.now pairs.entry.now.shown both
+            (with_stretch stretch (waiting_in self.old)) (waiting_in self.new)
             (O.contents out.old) (O.contents out.new)) }
         ensures waiting { (both : Both) → AreWaiting pairs.entry.now.shown both self.old
             → HasThere both stretch (offset_at answers.entry.old) (offset_at answers.entry.new)
             → OnOk result (AreWaiting pairs.entry.now.shown both self.new) }
         ensures shown { pairs.exit.now.shown ≡ pairs.entry.now.shown }
         ensures layout { pairs.exit.now.layout ≡ pairs.entry.now.layout }
+        ensures kept { pairs.exit.now.kept ≡ pairs.entry.now.kept }
     {
         let block = stretch.block;
         if !block.is_block() {
@@ -438,16 +455,19 @@ impl<'r> Changes<'r> {
         pairs: &mut Pairs<'_, '_>,
         out: &mut O,
     ) -> Result<(), ProgramError>
-        // Whatever both databases have: where what waits says so, and they have the answers' records in the stretch.
+        // Whatever both databases have: where what waits says so, and they have the answers' records in the stretch. Each
+        // address that waited and each of the stretch is in a line, or waits.
         ensures told { (both : Both) → AreWaiting pairs.entry.now.shown both self.old
             → HasThere both stretch (offset_at answers.entry.old) (offset_at answers.entry.new)
             → OnOk result (Tells pairs.entry.now.layout.now pairs.entry.now.shown both
+            (with_stretch stretch (waiting_in self.old)) (waiting_in self.new)
             (O.contents out.old) (O.contents out.new)) }
         ensures waiting { (both : Both) → AreWaiting pairs.entry.now.shown both self.old
             → HasThere both stretch (offset_at answers.entry.old) (offset_at answers.entry.new)
             → OnOk result (AreWaiting pairs.entry.now.shown both self.new) }
         ensures shown { pairs.exit.now.shown ≡ pairs.entry.now.shown }
         ensures layout { pairs.exit.now.layout ≡ pairs.entry.now.layout }
+        ensures kept { pairs.exit.now.kept ≡ pairs.entry.now.kept }
     {
         self.turn_to(stretch, answers, pairs, out)?;
         self.add(stretch, answers, pairs, out)

@@ -1,4 +1,7 @@
 //! How much of two files differs.
+ghost use Rattle.std.specs.Prelude.{◌≡◌, ◌↔◌, IsTrue};
+ghost use Rattle.mmdb_cmd_diff.specs.Counts.{HasNone, IsCounted, IsOneMore};
+
 use mmdb_reader::IpNetwork;
 use std::alloc::{AllocError, Global};
 
@@ -28,7 +31,9 @@ const NONE: NetworkTally = NetworkTally {
 };
 
 impl NetworkTally {
-    fn count(&mut self, network: IpNetwork) {
+    fn count(&mut self, network: IpNetwork)
+        ensures { IsOneMore self.old self.new }
+    {
         self.networks = self.networks.saturating_add(1);
         if let IpNetwork::V4(network) = network {
             let bits = 32 - u32::from(network.prefix());
@@ -47,7 +52,9 @@ pub(crate) struct ChangeCounts {
 
 impl ChangeCounts {
     /// Nothing changed yet.
-    pub(crate) fn new() -> ChangeCounts {
+    pub(crate) fn new() -> ChangeCounts
+        ensures { HasNone result }
+    {
         ChangeCounts {
             added: NONE,
             removed: NONE,
@@ -56,7 +63,9 @@ impl ChangeCounts {
     }
 
     /// Counts a network by what its first address has.
-    pub(crate) fn count(&mut self, network: IpNetwork, presence: Presence) {
+    pub(crate) fn count(&mut self, network: IpNetwork, presence: Presence)
+        ensures { IsCounted presence self.old self.new }
+    {
         match (presence.in_old, presence.in_new) {
             (false, _) => self.added.count(network),
             (_, false) => self.removed.count(network),
@@ -65,7 +74,9 @@ impl ChangeCounts {
     }
 
     /// Whether nothing changed.
-    pub(crate) fn are_same(&self) -> bool {
+    pub(crate) fn are_same(&self) -> bool
+        ensures { IsTrue result ↔ HasNone self.now }
+    {
         self.added.networks == 0 && self.removed.networks == 0 && self.changed.networks == 0
     }
 

@@ -1,25 +1,31 @@
 //! The values of networks in two databases, compared by how they are shown.
-ghost use Rattle.std.specs.Prelude.{◌≡◌, ◌↔◌, ℕ, List, IsTrue, true, false, IfOk, IfErr, IfSome, OnOk};
+ghost use Rattle.std.specs.Prelude.{◌≡◌, ◌↔◌, ℕ, List, Option, IsTrue, true, false, IfOk, IfErr, IfSome, OnOk, option_map};
 ghost use Rattle.std.specs.Io.KnownBytes.{Appends};
 ghost use Rattle.std.specs.Option.{ForSome};
+ghost use Rattle.mmdb_format.specs.Error.{MemoryApart};
 ghost use Rattle.mmdb_reader.specs.File.{data_section};
+ghost use Rattle.mmdb_reader.specs.Found.{section_asked, offset_found};
+ghost use Rattle.mmdb_value.specs.Values.{value_tree};
+ghost use Rattle.mmdb_compare.specs.Kept.{AreKeptAs};
+ghost use Rattle.mmdb_compare.specs.Same.{Sections};
+ghost use Rattle.mmdb_cmd_diff.specs.Alike.{AreAlikeIn, AreAlike, IsOfAlike, AreKeptAlike, IsUnreadable, IsUnreadableOn, IsUnread, IsFoundIn, AreFoundIn, IsRead, HaveSameText, IsTextIf};
 ghost use Rattle.mmdb_cmd_diff.specs.Lines.{WritesLine, WritesNone, line_of, line_with, front_of, is_of_output, shows_records as spec_shows_records};
 ghost use Rattle.mmdb_cmd_diff.specs.Seen.{HaveOneValueAt, AreSeenSame, AreKeptAsSeen};
 ghost use Rattle.mmdb_cmd_diff.specs.Shown.{IsShown};
-ghost use Rattle.mmdb_cmd_diff.specs.Showing.{IsNumberOf, IsShownFor, IsShownPair, offset_at};
+ghost use Rattle.mmdb_cmd_diff.specs.Showing.{IsNumberOf, IsShownPair, offset_at};
 
 use crate::shown::{ShownPair, ShownPairs, number_of};
 use crate::texts::BothTexts;
 use json::{Token, Writer};
 use mmdb_compare::{KnownPairs, Offsets, Side, SideBySide};
 use mmdb_console::ProgramError;
-use mmdb_found::found_json;
 use mmdb_json::compact;
 use mmdb_layout::{
     ChosenFields, Database, Found, Layout, line_of_cells, line_of_names, write_values,
 };
 use mmdb_reader::{IpNetwork, MaxMindDbError};
 use mmdb_value::Value;
+use mmdb_value::laws::values_equal_where_same;
 use std::alloc::{AllocError, Global};
 use std::io::Write;
 
@@ -47,6 +53,7 @@ pub(crate) struct Pairs<'a, 'r> {
     ghost are_whole: { shown.are_whole ≡ spec_shows_records layout.now },
     ghost texts_of_old: { ForSome texts (λ t. t.old ≡ data_section older.now) },
     ghost texts_of_new: { ForSome texts (λ t. t.new ≡ data_section newer.now) },
+    ghost records_are: { records ≡ shown.sections },
 }
 
 /// Why a value can't be shown: the database that it is of, and its error.
@@ -109,15 +116,31 @@ fn record_text_at(
     Ok(text?)
 }
 
-fn record_text(alloc: Global, found: Option<&Found<'_>>) -> Result<Vec<u8>, MaxMindDbError> {
-    let text = match found {
-        Some(found) => found_json(alloc, found, &[])?,
+// The text of a record that was read, or of no record.
+fn text_or_null(alloc: Global, value: &Option<Value<'_>>) -> Result<Vec<u8>, AllocError>
+    ensures text { (s : List ℕ) (offset : Option ℕ)
+        → IsRead s offset (option_map value_tree value.now) → IfOk result (λ text. IsShown s offset text.items) }
+{
+    match value {
+        Some(value) => compact(alloc, value),
+        None => b"null".to_vec(alloc),
+    }
+}
+
+// The text of the record that was found, or of no record.
+fn record_text(alloc: Global, found: Option<&Found<'_>>) -> Result<Vec<u8>, MaxMindDbError>
+    ensures text { (s : List ℕ) → IsFoundIn s found.entry
+        → IfOk result (λ text. IsShown s (offset_at found.entry) text.items) }
+    ensures failed { (s : List ℕ) → IsFoundIn s found.entry → IfErr result
+        (λ e. MemoryApart e (IsUnreadable s (offset_at found.entry))) }
+{
+    let record = match found {
+        Some(found) => found.decode_path(alloc, &[])?,
         None => None,
     };
-    match text {
-        Some(text) => Ok(text),
-        None => Ok(b"null".to_vec(alloc)?),
-    }
+    let text = text_or_null(alloc, &record);
+    drop(record);
+    Ok(text?)
 }
 
 /// The value of a network as JSON: its record, or an object of the values that are asked for.
@@ -125,7 +148,12 @@ fn value_text(
     alloc: Global,
     layout: &Layout<'_>,
     found: Option<&Found<'_>>,
-) -> Result<Vec<u8>, MaxMindDbError> {
+) -> Result<Vec<u8>, MaxMindDbError>
+    ensures text { (s : List ℕ) → spec_shows_records layout.now ≡ true → IsFoundIn s found.entry
+        → IfOk result (λ text. IsShown s (offset_at found.entry) text.items) }
+    ensures failed { (s : List ℕ) → spec_shows_records layout.now ≡ true → IsFoundIn s found.entry
+        → IfErr result (λ e. MemoryApart e (IsUnreadable s (offset_at found.entry))) }
+{
     match layout {
         Layout::Records => record_text(alloc, found),
         Layout::Values(fields) | Layout::Cells(fields) => values_text(alloc, fields, found),
@@ -138,7 +166,13 @@ fn text_in(
     layout: &Layout<'_>,
     side: Side,
     found: Option<&Found<'_>>,
-) -> Result<Vec<u8>, UnreadableValue> {
+) -> Result<Vec<u8>, UnreadableValue>
+    ensures text { (s : List ℕ) → spec_shows_records layout.now ≡ true → IsFoundIn s found.entry
+        → IfOk result (λ text. IsShown s (offset_at found.entry) text.items) }
+    ensures failed { (s : List ℕ) → spec_shows_records layout.now ≡ true → IsFoundIn s found.entry
+        → IfErr result (λ u. MemoryApart u.error (IsUnreadable s (offset_at found.entry))) }
+    ensures side { IfErr result (λ u. u.side ≡ side) }
+{
     match value_text(alloc, layout, found) {
         Ok(text) => Ok(text),
         Err(error) => Err(UnreadableValue { side, error }),
@@ -150,7 +184,13 @@ fn record_in<'r>(
     alloc: Global,
     side: Side,
     found: &Found<'r>,
-) -> Result<Option<Value<'r>>, UnreadableValue> {
+) -> Result<Option<Value<'r>>, UnreadableValue>
+    ensures read { IfOk result (λ value. IsRead (section_asked found.now)
+        (offset_found found.now) (option_map value_tree value)) }
+    ensures failed { IfErr result (λ u. MemoryApart u.error
+        (IsUnreadable (section_asked found.now) (offset_found found.now))) }
+    ensures side { IfErr result (λ u. u.side ≡ side) }
+{
     match found.decode_path(alloc, &[]) {
         Ok(record) => Ok(record),
         Err(error) => Err(UnreadableValue { side, error }),
@@ -161,12 +201,16 @@ fn record_in<'r>(
 fn text_of(
     alloc: Global,
     side: Side,
-    record: &Option<Value<'_>>,
-) -> Result<Option<Vec<u8>>, UnreadableValue> {
-    let Some(record) = record else {
+    value: &Option<Value<'_>>,
+) -> Result<Option<Vec<u8>>, UnreadableValue>
+    ensures text { IfOk result (λ text. IsTextIf (option_map value_tree value.now)
+        (option_map (λ t. t.items) text)) }
+    ensures failed { IfErr result (λ u. u.error ≡ MaxMindDbError.Memory) }
+{
+    let Some(value) = value else {
         return Ok(None);
     };
-    match compact(alloc, record) {
+    match compact(alloc, value) {
         Ok(text) => Ok(Some(text)),
         Err(_) => Err(UnreadableValue {
             side,
@@ -182,14 +226,21 @@ fn have_same_text(
     alloc: Global,
     old: &Option<Value<'_>>,
     new: &Option<Value<'_>>,
-) -> Result<bool, UnreadableValue> {
+) -> Result<bool, UnreadableValue>
+    ensures same { IfOk result (λ is_same. is_same ≡ true
+        → HaveSameText (option_map value_tree old.now) (option_map value_tree new.now)) }
+    ensures failed { IfErr result (λ u. u.error ≡ MaxMindDbError.Memory) }
+{
     let old_text = text_of(alloc, Side::Old, old)?;
     let new_text = text_of(alloc, Side::New, new)?;
     Ok(old_text == new_text)
 }
 
 // Whether two records are equal, or there is none.
-fn are_equal<'r>(old: &Option<Value<'r>>, new: &Option<Value<'r>>) -> bool {
+fn are_equal<'r>(old: &Option<Value<'r>>, new: &Option<Value<'r>>) -> bool
+    ensures { result ≡ true → option_map value_tree old.now ≡ option_map value_tree new.now }
+{
+    values_equal_where_same();
     match (old, new) {
         (Some(old), Some(new)) => *old == *new,
         (None, None) => true,
@@ -202,7 +253,13 @@ fn is_shown_as<'r>(
     alloc: Global,
     old: &Option<Value<'r>>,
     new: &Found<'r>,
-) -> Result<bool, UnreadableValue> {
+) -> Result<bool, UnreadableValue>
+    ensures same { (s : Sections) (at : Option ℕ)
+        → IsRead s.in_old at (option_map value_tree old.now) → section_asked new.now ≡ s.in_new → IfOk result
+        (λ is_same. is_same ≡ true → AreAlikeIn s at (offset_found new.now)) }
+    ensures failed { (s : Sections) (at : Option ℕ) → section_asked new.now ≡ s.in_new
+        → IfErr result (λ u. MemoryApart u.error (IsUnreadableOn s at (offset_found new.now) u.side)) }
+{
     let new = record_in(alloc, Side::New, new)?;
     let is_same = if are_equal(old, &new) {
         Ok(true)
@@ -218,7 +275,14 @@ fn are_same_values<'r>(
     alloc: Global,
     old: &Found<'r>,
     new: &Found<'r>,
-) -> Result<bool, UnreadableValue> {
+) -> Result<bool, UnreadableValue>
+    ensures same { (s : Sections) → section_asked old.now ≡ s.in_old
+        → section_asked new.now ≡ s.in_new → IfOk result (λ is_same. is_same ≡ true
+        → AreAlikeIn s (offset_found old.now) (offset_found new.now)) }
+    ensures failed { (s : Sections) → section_asked old.now ≡ s.in_old
+        → section_asked new.now ≡ s.in_new → IfErr result (λ u. MemoryApart u.error
+        (IsUnreadableOn s (offset_found old.now) (offset_found new.now) u.side)) }
+{
     let old = record_in(alloc, Side::Old, old)?;
     let is_same = is_shown_as(alloc, &old, new);
     drop(old);
@@ -231,7 +295,14 @@ fn are_same(
     alloc: Global,
     layout: &Layout<'_>,
     answers: FoundInBoth<'_, '_>,
-) -> Result<bool, UnreadableValue> {
+) -> Result<bool, UnreadableValue>
+    ensures same { (s : Sections) → spec_shows_records layout.now ≡ true
+        → AreFoundIn s answers.entry.old answers.entry.new → IfOk result (λ is_same.
+        is_same ≡ true → AreAlikeIn s (offset_at answers.entry.old) (offset_at answers.entry.new)) }
+    ensures failed { (s : Sections) → spec_shows_records layout.now ≡ true
+        → AreFoundIn s answers.entry.old answers.entry.new → IfErr result (λ u. MemoryApart u.error
+        (IsUnreadableOn s (offset_at answers.entry.old) (offset_at answers.entry.new) u.side)) }
+{
     if let (Layout::Records, Some(old), Some(new)) = (layout, answers.old, answers.new) {
         return are_same_values(alloc, old, new);
     }
@@ -252,7 +323,9 @@ pub(crate) fn offset_of(found: Option<&Found<'_>>) -> Option<usize>
 
 impl FoundInBoth<'_, '_> {
     // The offsets by which it is kept whether the pair is the same, unless one is too large.
-    fn offsets(&self) -> Option<Offsets> {
+    fn offsets(&self) -> Option<Offsets>
+        ensures { IfSome result (AreKeptAs (offset_at self.now.old) (offset_at self.now.new)) }
+    {
         Offsets::of(offset_of(self.old), offset_of(self.new))
     }
 
@@ -336,7 +409,14 @@ impl<'a, 'r> Pairs<'a, 'r> {
         layout: &'a Layout<'a>,
         old: &'r Database,
         new: &'r Database,
-    ) -> Result<Pairs<'a, 'r>, AllocError> {
+    ) -> Result<Pairs<'a, 'r>, AllocError>
+        ensures kept { IfOk result (λ pairs. AreKeptAlike pairs.shown pairs.kept) }
+        ensures old { IfOk result (λ pairs. pairs.shown.sections.in_old ≡ data_section old.now) }
+        ensures new { IfOk result (λ pairs. pairs.shown.sections.in_new ≡ data_section new.now) }
+        ensures whole { IfOk result
+            (λ pairs. pairs.shown.are_whole ≡ spec_shows_records layout.now) }
+        ensures layout { IfOk result (λ pairs. pairs.layout ≡ layout.entry) }
+    {
         let (in_old, in_new) = (old.data_section(), new.data_section());
         let are_whole = shows_records(layout);
         Ok(Pairs {
@@ -355,6 +435,7 @@ impl<'a, 'r> Pairs<'a, 'r> {
     #[inline(never)]
     pub(crate) fn let_go(&mut self)
         ensures shown { self.new.shown ≡ self.old.shown }
+        ensures kept { self.new.kept ≡ self.old.kept }
         ensures layout { self.new.layout ≡ self.old.layout }
     {
         self.shown.clear();
@@ -364,7 +445,13 @@ impl<'a, 'r> Pairs<'a, 'r> {
     }
 
     /// Says of two records that are kept as the same that they came last.
-    pub(crate) fn keep_last(&mut self, offsets: Option<Offsets>) {
+    pub(crate) fn keep_last(&mut self, offsets: Option<Offsets>)
+        ensures kept { AreKeptAlike self.old.shown self.old.kept
+            → ForSome offsets (IsOfAlike self.old.shown)
+            → AreKeptAlike self.old.shown self.new.kept }
+        ensures shown { self.new.shown ≡ self.old.shown }
+        ensures layout { self.new.layout ≡ self.old.layout }
+    {
         self.kept.keep_last(offsets);
     }
 
@@ -373,6 +460,7 @@ impl<'a, 'r> Pairs<'a, 'r> {
         ensures pair { IfSome result
             (IsShownPair self.old.shown (offset_at answers.entry.old) (offset_at answers.entry.new)) }
         ensures shown { self.new.shown ≡ self.old.shown }
+        ensures kept { self.new.kept ≡ self.old.kept }
         ensures layout { self.new.layout ≡ self.old.layout }
     {
         match &mut self.texts {
@@ -387,6 +475,7 @@ impl<'a, 'r> Pairs<'a, 'r> {
             shown }
         ensures same { IsTrue result ↔ (shown.old.items ≡ shown.new.items) }
         ensures shown { self.new.shown ≡ self.old.shown }
+        ensures kept { self.new.kept ≡ self.old.kept }
         ensures layout { self.new.layout ≡ self.old.layout }
     {
         if shown.old == shown.new {
@@ -403,7 +492,17 @@ impl<'a, 'r> Pairs<'a, 'r> {
         &mut self,
         alloc: Global,
         answers: FoundInBoth<'_, '_>,
-    ) -> Result<bool, UnreadableValue> {
+    ) -> Result<bool, UnreadableValue>
+        ensures same { AreFoundIn self.old.shown.sections answers.entry.old answers.entry.new
+            → IfOk result (λ is_same. is_same ≡ true → AreAlike self.old.shown
+            (offset_at answers.entry.old) (offset_at answers.entry.new)) }
+        ensures failed { AreFoundIn self.old.shown.sections answers.entry.old answers.entry.new
+            → IfErr result (λ u. MemoryApart u.error (IsUnread self.old.shown
+            (offset_at answers.entry.old) (offset_at answers.entry.new) u.side)) }
+        ensures shown { self.new.shown ≡ self.old.shown }
+        ensures kept { self.new.kept ≡ self.old.kept }
+        ensures layout { self.new.layout ≡ self.old.layout }
+    {
         let is_same = are_same(alloc, self.layout, answers);
         self.note(&is_same, answers);
         is_same
@@ -415,7 +514,17 @@ impl<'a, 'r> Pairs<'a, 'r> {
         &mut self,
         alloc: Global,
         answers: FoundInBoth<'_, '_>,
-    ) -> Result<bool, UnreadableValue> {
+    ) -> Result<bool, UnreadableValue>
+        ensures same { AreFoundIn self.old.shown.sections answers.entry.old answers.entry.new
+            → IfOk result (λ is_same. is_same ≡ true → AreAlike self.old.shown
+            (offset_at answers.entry.old) (offset_at answers.entry.new)) }
+        ensures failed { AreFoundIn self.old.shown.sections answers.entry.old answers.entry.new
+            → IfErr result (λ u. MemoryApart u.error (IsUnread self.old.shown
+            (offset_at answers.entry.old) (offset_at answers.entry.new) u.side)) }
+        ensures shown { self.new.shown ≡ self.old.shown }
+        ensures kept { self.new.kept ≡ self.old.kept }
+        ensures layout { self.new.layout ≡ self.old.layout }
+    {
         self.shown.forget_last();
         match self.laid_out(alloc, answers) {
             Some(shown) => Ok(self.is_shown_same(answers, shown)),
@@ -424,7 +533,11 @@ impl<'a, 'r> Pairs<'a, 'r> {
     }
 
     // Notes whether two records that were compared can be read, and if not, which one can't.
-    fn note(&mut self, compared: &Result<bool, UnreadableValue>, answers: FoundInBoth<'_, '_>) {
+    fn note(&mut self, compared: &Result<bool, UnreadableValue>, answers: FoundInBoth<'_, '_>)
+        ensures shown { self.new.shown ≡ self.old.shown }
+        ensures kept { self.new.kept ≡ self.old.kept }
+        ensures layout { self.new.layout ≡ self.old.layout }
+    {
         let Some(texts) = &mut self.texts else {
             return;
         };
@@ -438,6 +551,8 @@ impl<'a, 'r> Pairs<'a, 'r> {
     #[inline(always)]
     fn are_equal(&mut self, old: Option<usize>, new: Option<usize>) -> bool
         ensures same { result ≡ true → HaveOneValueAt self.old.records old new }
+        ensures shown { self.new.shown ≡ self.old.shown }
+        ensures layout { self.new.layout ≡ self.old.layout }
         ensures records { self.new.records ≡ self.old.records }
         ensures kept { self.new.kept ≡ self.old.kept }
     {
@@ -451,6 +566,12 @@ impl<'a, 'r> Pairs<'a, 'r> {
     /// are equal whole records. Of others `is_same` says it.
     pub(crate) fn is_seen_same(&mut self, offsets: Offsets) -> bool
         ensures same { result ≡ true → AreSeenSame self.old.records self.old.kept offsets }
+        ensures alike { AreKeptAlike self.old.shown self.old.kept → result ≡ true
+            → IsOfAlike self.old.shown offsets }
+        ensures all { AreKeptAlike self.old.shown self.old.kept
+            → AreKeptAlike self.old.shown self.new.kept }
+        ensures shown { self.new.shown ≡ self.old.shown }
+        ensures layout { self.new.layout ≡ self.old.layout }
         ensures kept { AreKeptAsSeen self.old.records self.old.kept self.new.kept }
         ensures records { self.new.records ≡ self.old.records }
     {
@@ -473,7 +594,20 @@ impl<'a, 'r> Pairs<'a, 'r> {
         &mut self,
         alloc: Global,
         answers: FoundInBoth<'_, '_>,
-    ) -> Result<bool, UnreadableValue> {
+    ) -> Result<bool, UnreadableValue>
+        ensures same { AreFoundIn self.old.shown.sections answers.entry.old answers.entry.new
+            → AreKeptAlike self.old.shown self.old.kept
+            → IfOk result (λ is_same. is_same ≡ true → AreAlike self.old.shown
+            (offset_at answers.entry.old) (offset_at answers.entry.new)) }
+        ensures failed { AreFoundIn self.old.shown.sections answers.entry.old answers.entry.new
+            → IfErr result (λ u. MemoryApart u.error (IsUnread self.old.shown
+            (offset_at answers.entry.old) (offset_at answers.entry.new) u.side)) }
+        ensures shown { self.new.shown ≡ self.old.shown }
+        ensures kept { AreFoundIn self.old.shown.sections answers.entry.old answers.entry.new
+            → AreKeptAlike self.old.shown self.old.kept
+            → AreKeptAlike self.old.shown self.new.kept }
+        ensures layout { self.new.layout ≡ self.old.layout }
+    {
         let Some(offsets) = answers.offsets() else {
             let (old, new) = (offset_of(answers.old), offset_of(answers.new));
             if self.are_equal(old, new) {
@@ -496,7 +630,19 @@ impl<'a, 'r> Pairs<'a, 'r> {
         &mut self,
         alloc: Global,
         answers: FoundInBoth<'_, '_>,
-    ) -> Result<bool, UnreadableValue> {
+    ) -> Result<bool, UnreadableValue>
+        ensures same { AreFoundIn self.old.shown.sections answers.entry.old answers.entry.new
+            → IfOk result (λ is_same. is_same ≡ true → AreAlike self.old.shown
+            (offset_at answers.entry.old) (offset_at answers.entry.new)) }
+        ensures failed { AreFoundIn self.old.shown.sections answers.entry.old answers.entry.new
+            → IfErr result (λ u. MemoryApart u.error (IsUnread self.old.shown
+            (offset_at answers.entry.old) (offset_at answers.entry.new) u.side)) }
+        ensures shown { self.new.shown ≡ self.old.shown }
+        ensures kept { AreFoundIn self.old.shown.sections answers.entry.old answers.entry.new
+            → AreKeptAlike self.old.shown self.old.kept
+            → AreKeptAlike self.old.shown self.new.kept }
+        ensures layout { self.new.layout ≡ self.old.layout }
+    {
         let is_same = self.compare_values(alloc, answers)?;
         if let Some(offsets) = answers.offsets() {
             self.kept.keep(offsets, is_same);
@@ -510,7 +656,20 @@ impl<'a, 'r> Pairs<'a, 'r> {
         &mut self,
         alloc: Global,
         answers: FoundInBoth<'_, '_>,
-    ) -> Result<bool, UnreadableValue> {
+    ) -> Result<bool, UnreadableValue>
+        ensures same { AreFoundIn self.old.shown.sections answers.entry.old answers.entry.new
+            → AreKeptAlike self.old.shown self.old.kept
+            → IfOk result (λ is_same. is_same ≡ true → AreAlike self.old.shown
+            (offset_at answers.entry.old) (offset_at answers.entry.new)) }
+        ensures failed { AreFoundIn self.old.shown.sections answers.entry.old answers.entry.new
+            → IfErr result (λ u. MemoryApart u.error (IsUnread self.old.shown
+            (offset_at answers.entry.old) (offset_at answers.entry.new) u.side)) }
+        ensures shown { self.new.shown ≡ self.old.shown }
+        ensures kept { AreFoundIn self.old.shown.sections answers.entry.old answers.entry.new
+            → AreKeptAlike self.old.shown self.old.kept
+            → AreKeptAlike self.old.shown self.new.kept }
+        ensures layout { self.new.layout ≡ self.old.layout }
+    {
         match self.try_same(alloc, answers) {
             Err(unreadable) if unreadable.is_memory() => {
                 drop(unreadable);
@@ -548,6 +707,7 @@ impl<'a, 'r> Pairs<'a, 'r> {
         ensures pair { IfOk result
             (IsShownPair self.old.shown (offset_at answers.entry.old) (offset_at answers.entry.new)) }
         ensures shown { self.new.shown ≡ self.old.shown }
+        ensures kept { self.new.kept ≡ self.old.kept }
         ensures layout { self.new.layout ≡ self.old.layout }
     {
         match self.laid_out(alloc, answers) {
@@ -567,6 +727,7 @@ impl<'a, 'r> Pairs<'a, 'r> {
         ensures pair { IfOk result
             (IsShownPair self.old.shown (offset_at answers.entry.old) (offset_at answers.entry.new)) }
         ensures shown { self.new.shown ≡ self.old.shown }
+        ensures kept { self.new.kept ≡ self.old.kept }
         ensures layout { self.new.layout ≡ self.old.layout }
     {
         let shown = self.shown_of(alloc, answers)?;
@@ -584,6 +745,7 @@ impl<'a, 'r> Pairs<'a, 'r> {
         ensures pair { IfOk result
             (IsShownPair self.old.shown (offset_at answers.entry.old) (offset_at answers.entry.new)) }
         ensures shown { self.new.shown ≡ self.old.shown }
+        ensures kept { self.new.kept ≡ self.old.kept }
         ensures layout { self.new.layout ≡ self.old.layout }
     {
         let Some(number) = answers.number() else {
@@ -605,6 +767,7 @@ impl<'a, 'r> Pairs<'a, 'r> {
         ensures pair { IfOk result
             (IsShownPair self.old.shown (offset_at answers.entry.old) (offset_at answers.entry.new)) }
         ensures shown { self.new.shown ≡ self.old.shown }
+        ensures kept { self.new.kept ≡ self.old.kept }
         ensures layout { self.new.layout ≡ self.old.layout }
     {
         match self.try_shown(alloc, answers) {

@@ -1,4 +1,6 @@
 //! Two databases that are read from files.
+ghost use Rattle.std.specs.Prelude.{◌≡◌, unwrap_or};
+
 use mmdb_console::{Console, opened, path_elsewhere};
 use mmdb_layout::{Database, open_database, path_or};
 use mmdb_reader::{MaxMindDbError, Reader};
@@ -15,11 +17,15 @@ pub(crate) struct TwoDatabases {
 }
 
 impl TwoDatabases {
-    pub(crate) fn old(&self) -> &Database {
+    pub(crate) fn old(&self) -> &Database
+        ensures { result.now ≡ self.now.old }
+    {
         &self.old
     }
 
-    pub(crate) fn newer(&self) -> &Database {
+    pub(crate) fn newer(&self) -> &Database
+        ensures { result.now ≡ unwrap_or self.now.other self.now.old }
+    {
         match &self.other {
             Some(other) => other,
             None => &self.old,

@@ -16,3 +16,7 @@ mod AskedLaws
 mod MemberLaws
 mod PartLaws
 mod GainLaws
+mod StretchLaws
+mod TaskLaws
+mod HeaderLaws
+mod CopiedLaws

@@ -9,7 +9,7 @@ use Rattle.mmdb_reader.specs.Found.{database_asked, leaf_of, offset_found}
 use Rattle.mmdb_reader.specs.Lookup.{Answers, CanAsk, IsInvalidAt, outcome_at}
 use Rattle.mmdb_reader.specs.declared.lookup_result.LookupResult.{LookupResult}
 use Rattle.mmdb_cmd_enrich.specs.Answered.{IsAnswered}
-use Rattle.mmdb_cmd_enrich.specs.Asked.{Asks}
+use Rattle.mmdb_layout.specs.Asked.{Asks}
 use Rattle.mmdb_cmd_enrich.specs.Layers.{CanAskNone, AnyRejects, digit_of, IsKeyFor}
 use Rattle.mmdb_cmd_enrich.specs.Working.{IsAnswer, IsShownOf}
 use Rattle.mmdb_cmd_enrich.proofs.NetworkLaws.{answer_has, answers_show, none_shown, shown_is}

@@ -5,7 +5,7 @@ use Rattle.mmdb_format.specs.Unfolding.{Tree}
 use Rattle.mmdb_reader.specs.File.{Database, data_section}
 use Rattle.mmdb_reader.specs.Lookup.{CanAsk, IsInvalidAt, Answers, outcome_at}
 use Rattle.mmdb_reader.specs.declared.path.PathElement.{PathElement}
-use Rattle.mmdb_cmd_enrich.specs.Asked.{Asks}
+use Rattle.mmdb_layout.specs.Asked.{Asks}
 use Rattle.mmdb_layout.specs.Reading.{reads_in, or_next}
 use Rattle.mmdb_cmd_enrich.specs.declared.cache.RecordKeys.{RecordKeys}
 

@@ -16,6 +16,11 @@ pub mod Kept
 pub mod Longer
 pub mod Ahead
 pub mod Remembers
+pub mod Stretches
+pub mod Tasks
+pub mod Header
+pub mod Mark
+pub mod Copied
 -- What only contracts of private functions and proofs name.
 pub mod Same
 pub mod Working

@@ -11,7 +11,7 @@ use Rattle.mmdb_reader.specs.Lookup.{CanAsk, Answers, outcome_at}
 use Rattle.mmdb_reader.specs.Shown.{ShowsAnswer}
 use Rattle.mmdb_reader.specs.declared.path.PathElement.{PathElement}
 use Rattle.mmdb_filter.specs.declared.rows.Rows.{Rows}
-use Rattle.mmdb_cmd_enrich.specs.Asked.{Asks}
+use Rattle.mmdb_layout.specs.Asked.{Asks}
 use Rattle.mmdb_cmd_enrich.specs.Cells.{ShowsCell, blanks}
 use Rattle.mmdb_cmd_enrich.specs.Columns.{delimiter_of}
 

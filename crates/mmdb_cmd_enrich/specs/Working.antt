@@ -20,7 +20,7 @@ use Rattle.json.specs.Token.{Token, key}
 use Rattle.mmdb_reader.specs.File.{Database}
 use Rattle.mmdb_cmd_enrich.specs.declared.members.NamedField.{NamedField}
 use Rattle.mmdb_cmd_enrich.specs.Fields.{AreValue, AreFields, AreValues, object_tokens}
-use Rattle.mmdb_cmd_enrich.specs.Asked.{Asks}
+use Rattle.mmdb_layout.specs.Asked.{Asks}
 use Rattle.mmdb_filter.specs.declared.counts.Outcome.TheVariants.{Occupied}
 use Rattle.mmdb_objects.specs.declared.objects.Line.{Line}
 use Rattle.mmdb_cmd_enrich.specs.declared.place.ReadRow.{ReadRow}

@@ -7,11 +7,11 @@ ghost use Rattle.mmdb_cmd_enrich.specs.Ahead.{IsNumberOf};
 ghost use Rattle.mmdb_cmd_enrich.specs.Answered.{IsAnswered};
 ghost use Rattle.mmdb_cmd_enrich.specs.Layers.{AreKeysFor, IsKeyFor};
 
-use crate::asked::asked_of;
 use crate::cache::RecordKeys;
 use crate::found::{FoundRecords, key_of};
 use crate::leaves::{Leaves, look_up_found};
 use crate::notes::{Notes, note_rejected};
+use mmdb_layout::asked_of;
 use mmdb_reader::{FoundLeaf, LookupResult, Reader};
 use std::alloc::{AllocError, Global};
 use std::convert::AsSlice;

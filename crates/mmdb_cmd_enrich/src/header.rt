@@ -1,8 +1,17 @@
 //! The first row, which may name the columns.
+ghost use Rattle.std.specs.Prelude.{◌≡◌, ◌-◌, ◌∷◌, ◌++◌, length, take, drop, map, IfOk, IfSome, OnOk, Some, true};
+ghost use Rattle.std.specs.Io.KnownBytes.{Appends};
+ghost use Rattle.mmdb_filter.specs.Lines.{row_with, text_length};
+ghost use Rattle.mmdb_filter.specs.Rows.{row_from, rows_after};
+ghost use Rattle.mmdb_filter.specs.declared.rows.RowPosition.TheVariants.{Cell};
+ghost use Rattle.mmdb_cmd_enrich.specs.Columns.{delimiter_of as spec_delimiter_of};
+ghost use Rattle.mmdb_cmd_enrich.specs.Header.{AreColumnsOf, AreNamedBy, IsAddressIn, IsHeaderPassed, name_cell, name_cells, names_in};
+
 use crate::columns::{breaks_in, delimiter_of};
+use crate::output::put;
 use crate::task::{Column, RowsTask};
 use csv::{ByteRecord, ReaderBuilder};
-use mmdb_console::{ProgramError, put};
+use mmdb_console::ProgramError;
 use mmdb_filter::{MOST_SEEN, RowPosition, Rows, put_csv_cell, read_chunk};
 use std::alloc::{AllocError, Global};
 use std::io::{BufRead, Write};
@@ -12,7 +21,11 @@ fn read_header<I: BufRead>(
     alloc: Global,
     rows: Rows,
     input: &mut I,
-) -> Result<Vec<u8>, ProgramError> {
+) -> Result<Vec<u8>, ProgramError>
+    ensures { IfOk result (λ row. IfSome (I.remaining input.old) (λ xs.
+        (row.items ≡ row_from rows Cell xs)
+        × (I.remaining input.new ≡ Some (rows_after rows Cell xs)))) }
+{
     let mut row = Vec::new(alloc);
     let place = read_chunk(input, rows, RowPosition::Cell, &mut row)?;
     if place != RowPosition::Ended && row.len() > MOST_SEEN {
@@ -22,7 +35,11 @@ fn read_header<I: BufRead>(
 }
 
 // A row without its end, and that end. A carriage return alone ends no row.
-fn split_end(row: &[u8]) -> (&[u8], &'static [u8]) {
+#[tactic(auto, unfolding(mmdb_filter::specs::Lines::text_length))]
+fn split_end(row: &[u8]) -> (&[u8], &'static [u8])
+    ensures text { result.0.now ≡ take (text_length row.now) row.now }
+    ensures end { result.1.now ≡ drop (text_length row.now) row.now }
+{
     match row {
         [cells @ .., b'\r', b'\n'] => (cells, b"\r\n"),
         [cells @ .., b'\n'] => (cells, b"\n"),
@@ -31,7 +48,10 @@ fn split_end(row: &[u8]) -> (&[u8], &'static [u8]) {
 }
 
 // Adds a name after a delimiter.
-fn put_name(rows: Rows, name: &str, row: &mut Vec<u8>) -> Result<(), AllocError> {
+fn put_name(rows: Rows, name: &str, row: &mut Vec<u8>) -> Result<(), AllocError>
+    ensures { OnOk result (row.new.items
+        ≡ row.old.items ++ (spec_delimiter_of rows ∷ name_cell rows name.now)) }
+{
     row.push(delimiter_of(rows))?;
     match rows {
         Rows::Lines { .. } => row.extend_from_slice(name.as_bytes()),
@@ -40,7 +60,10 @@ fn put_name(rows: Rows, name: &str, row: &mut Vec<u8>) -> Result<(), AllocError>
 }
 
 // Adds the names of the fields to the first row.
-fn put_names(rows: Rows, names: &[&str], row: &mut Vec<u8>) -> Result<(), AllocError> {
+fn put_names(rows: Rows, names: &[&str], row: &mut Vec<u8>) -> Result<(), AllocError>
+    ensures { OnOk result (row.new.items
+        ≡ row_with row.old.items (name_cells rows (map (λ name. name.now) names.now)) 0) }
+{
     let (cells, end) = split_end(row.as_slice());
     let length = cells.len();
     row.truncate(length);
@@ -167,7 +190,9 @@ fn place_of(
     rows: Rows,
     column: Column<'_>,
     header: &[u8],
-) -> Result<usize, ProgramError> {
+) -> Result<usize, ProgramError>
+    ensures { IfOk result (IsAddressIn column.entry) }
+{
     let name = match column {
         Column::Number(number) => return Ok(number),
         Column::Name(name) => name,
@@ -193,7 +218,11 @@ fn write_header<O: Write>(
     task: &RowsTask<'_>,
     header: &mut Vec<u8>,
     out: &mut O,
-) -> Result<Columns, ProgramError> {
+) -> Result<Columns, ProgramError>
+    ensures written { OnOk result (Appends (O.contents out.old) (O.contents out.new)
+        (row_with header.old.items (name_cells task.now.rows (names_in task.now)) 0)) }
+    ensures columns { IfOk result (AreNamedBy task.now.rows task.now.column header.old.items) }
+{
     let address = place_of(alloc, task.rows, task.column, header.as_slice())?;
     let (cells, _) = split_end(header.as_slice());
     let breaks = Some(breaks_in(task.rows, cells));
@@ -208,7 +237,12 @@ fn copy_header<I: BufRead, O: Write>(
     task: &RowsTask<'_>,
     input: &mut I,
     out: &mut O,
-) -> Result<Columns, ProgramError> {
+) -> Result<Columns, ProgramError>
+    ensures passed { OnOk result (IsHeaderPassed true task.now
+        (I.remaining input.old) (I.remaining input.new) (O.contents out.old) (O.contents out.new)) }
+    ensures columns { IfOk result (λ columns. IfSome (I.remaining input.old)
+        (λ xs. AreColumnsOf true task.now.rows task.now.column xs columns)) }
+{
     let mut header = read_header(alloc, task.rows, input)?;
     if header.is_empty() {
         return Ok(Columns {
@@ -225,7 +259,12 @@ pub(crate) fn columns_of_input<I: BufRead, O: Write>(
     task: &RowsTask<'_>,
     input: &mut I,
     out: &mut O,
-) -> Result<Columns, ProgramError> {
+) -> Result<Columns, ProgramError>
+    ensures passed { OnOk result (IsHeaderPassed task.now.header task.now
+        (I.remaining input.old) (I.remaining input.new) (O.contents out.old) (O.contents out.new)) }
+    ensures columns { IfOk result (λ columns. IfSome (I.remaining input.old)
+        (λ xs. AreColumnsOf task.now.header task.now.rows task.now.column xs columns)) }
+{
     if task.header {
         return copy_header(alloc, task, input, out);
     }

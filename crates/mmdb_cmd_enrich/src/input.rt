@@ -1,5 +1,10 @@
 //! Standard input, as rows are read from it.
-use mmdb_console::{ProgramError, put};
+ghost use Rattle.std.specs.Prelude.{◌≡◌, ◌≤◌, IfOk, IfSome, OnOk, OnSome, true};
+ghost use Rattle.std.specs.Io.KnownBytes.{Keeps};
+ghost use Rattle.mmdb_cmd_enrich.specs.Mark.{IsMarkCopied, begins_with};
+
+use crate::output::put;
+use mmdb_console::ProgramError;
 use mmdb_filter::Live;
 use std::cell::Cell;
 use std::io::{self, BufRead, ErrorKind, Read, Write};
@@ -9,7 +14,13 @@ use std::rt::Files;
 const MARK: &[u8] = b"\xef\xbb\xbf";
 
 // Whether the next byte of an input is this one.
-fn is_next<I: BufRead>(input: &mut I, byte: u8) -> io::Result<bool> {
+fn is_next<I: BufRead>(input: &mut I, byte: u8) -> io::Result<bool>
+    ensures next { IfOk result (λ is_next. IfSome (I.remaining input.old)
+        (λ xs. is_next ≡ begins_with byte xs)) }
+    ensures kept { Keeps (I.remaining input.old) (I.remaining input.new) }
+    ensures shown { IfOk result (λ is_next. OnSome (I.remaining input.old)
+        (is_next ≡ true → IfSome (I.consumable_len input.new) (λ shown. 1 ≤ shown))) }
+{
     for _ in 0..u64::MAX {
         match input.fill_buf() {
             Ok(shown) => return Ok(shown.first() == Some(&byte)),
@@ -25,7 +36,10 @@ fn is_next<I: BufRead>(input: &mut I, byte: u8) -> io::Result<bool> {
 pub(crate) fn copy_mark<I: BufRead, O: Write>(
     input: &mut I,
     out: &mut O,
-) -> Result<(), ProgramError> {
+) -> Result<(), ProgramError>
+    ensures { OnOk result (IsMarkCopied
+        (I.remaining input.old) (I.remaining input.new) (O.contents out.old) (O.contents out.new)) }
+{
     for byte in MARK {
         if !is_next(input, *byte)? {
             return Ok(());

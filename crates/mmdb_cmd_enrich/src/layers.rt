@@ -13,12 +13,11 @@ ghost use Rattle.mmdb_cmd_enrich.specs.Records.{answer_read};
 ghost use Rattle.mmdb_cmd_enrich.specs.Working.{IsAnswer, AreAnswers, IsKeyAfter, IsNetworkOf, IsSmallest, IsShownOf, offset_in};
 
 use crate::ask::Ask;
-use crate::asked::asked_of;
 use crate::cache::RecordKeys;
 use crate::found::{FoundRecords, ReadRecords};
 use crate::leaves::{Leaves, look_up_found};
 use crate::notes::{Notes, note_rejected_by};
-use mmdb_layout::ReadAlong;
+use mmdb_layout::{ReadAlong, asked_of};
 use mmdb_net::IpNetwork;
 use mmdb_reader::{FoundLeaf, LookupResult, MaxMindDbError, PathElement, Reader};
 use mmdb_value::Value;

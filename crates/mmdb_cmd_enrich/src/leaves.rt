@@ -4,7 +4,7 @@ ghost use Rattle.std.specs.List.{slice_get};
 ghost use Rattle.std.specs.declared.net.ip_addr.IpAddr.{IpAddr as SpecIpAddr};
 ghost use Rattle.mmdb_reader.specs.File.{Database};
 ghost use Rattle.mmdb_reader.specs.Many.{IsFoundFor, IsLookup};
-ghost use Rattle.mmdb_cmd_enrich.specs.Asked.{Asks};
+ghost use Rattle.mmdb_layout.specs.Asked.{Asks};
 
 use mmdb_reader::{FoundLeaf, LookupResult, MaxMindDbError, Reader};
 use std::convert::AsSlice;

@@ -3,7 +3,6 @@
 
 mod ahead;
 mod ask;
-mod asked;
 mod cache;
 mod cells;
 mod columns;

@@ -1,4 +1,12 @@
 //! Rows with fields after them.
+ghost use Rattle.std.specs.Prelude.{◌≡◌, ◌∷◌, [], OnErr, OnOk, OnSome, IfOk, true, false};
+ghost use Rattle.std.specs.Io.KnownBytes.{IsAtEnd};
+ghost use Rattle.mmdb_filter.specs.Lines.{IsBegun, IsFiltered};
+ghost use Rattle.mmdb_cmd_enrich.specs.Copied.{AreAllCopied, AreRowsCopied};
+ghost use Rattle.mmdb_cmd_enrich.specs.Stretches.{AreAsked, IsEnriched, IsEnrichedFront, additions_of};
+ghost use Rattle.mmdb_cmd_enrich.specs.Tasks.{AreCellsAsked, IsMemberAsked, IsMemberOf, has_network};
+ghost use Rattle.mmdb_cmd_enrich.specs.Template.{Template as SpecTemplate};
+
 use crate::ask::{Ask, OneDatabase};
 use crate::enrichment::Enrichment;
 use crate::fields::wanted_fields;
@@ -24,7 +32,7 @@ use mmdb_reader::PathElement;
 use std::alloc::{AllocError, Global};
 use std::cell::Cell;
 use std::env::Env;
-use std::io::Write;
+use std::io::{self, ErrorKind, Write};
 use std::mem;
 use std::rt::Files;
 use std::time::Clock;
@@ -134,8 +142,6 @@ struct Passage<'r, 'n, 'a, R: Files + Clock> {
     /// What the databases are called.
     names: &'r [&'r str],
     kind: InputKind,
-    /// How many bytes of the input passed.
-    bytes: u64,
     /// How the rows fared that passed.
     counts: Counts,
     /// What is noted of their records.
@@ -143,6 +149,8 @@ struct Passage<'r, 'n, 'a, R: Files + Clock> {
     /// Whether it was said what is wrong with the first of them.
     is_checked: bool,
     notes: &'n mut Warnings<'a>,
+    /// Whether replaced files are opened anew.
+    reloads: bool,
     lookout: Lookout,
 }
 
@@ -163,18 +171,13 @@ impl<'r, 'n, 'a, R: Files + Clock> Passage<'r, 'n, 'a, R> {
             rows,
             names,
             kind: kind_of_input(rt),
-            bytes: 0,
             counts: Counts::new(),
             records,
             is_checked: false,
             notes,
+            reloads: lookout.is_wanted,
             lookout,
         }
-    }
-
-    // Takes out what is noted of records.
-    fn take_records(&mut self, alloc: Global) -> Notes {
-        mem::replace(&mut self.records, Notes::new(alloc))
     }
 }
 
@@ -184,15 +187,26 @@ impl<'r, 'n, 'a, R: Files + Clock> Passage<'r, 'n, 'a, R> {
 fn filter<A: Additions, R: Files + Clock, I: Live, O: Write, E: Pace>(
     additions: &A,
     memory: &mut A::Memory,
-    input: &mut I,
+    input: &mut Counted<'_, I>,
     passage: &mut Passage<'_, '_, '_, R>,
-    console: &mut Console<'_, O, E>,
+    console: &mut Console<'_, Output<'_, O>, E>,
 ) -> Result<bool, ProgramError>
     requires { A.fits additions.now memory.old }
-    ensures { A.fits additions.now memory.new }
+    ensures whole { OnOk result (IsFiltered passage.old.rows (A.adds additions.now)
+        (I.remaining input.old.input.now) (I.remaining input.new.input.now)
+        (O.contents console.old.out.now.out.now) (O.contents console.new.out.now.out.now)
+        passage.old.counts passage.new.counts) }
+    ensures end { IfOk result (λ is_end. is_end ≡ true
+        → OnSome (I.remaining input.old.input.now) (IsAtEnd (I.remaining input.new.input.now))) }
+    ensures begun { OnErr result (IsBegun passage.old.rows (A.adds additions.now)
+        (I.remaining input.old.input.now)
+        (O.contents console.old.out.now.out.now) (O.contents console.new.out.now.out.now)) }
+    ensures rows { passage.new.rows ≡ passage.old.rows }
+    ensures reloads { passage.new.reloads ≡ passage.old.reloads }
+    ensures fits { A.fits additions.now memory.new }
 {
     let alloc = console.alloc;
-    let bytes = Cell::new(passage.bytes);
+    let bytes = input.bytes;
     let line = ProgressLine::new(alloc, "lines", console.errors);
     let rows = WatchedRows {
         size: passage.kind.size,
@@ -200,30 +214,46 @@ fn filter<A: Additions, R: Files + Clock, I: Live, O: Write, E: Pace>(
         is_quiet: passage.notes.is_quiet(),
         before: passage.notes.before,
     };
-    let mut watch = Watch::new(alloc, line, rows, &bytes, &mut passage.lookout, passage.rt);
-    let mut out = Output::new(console.out, passage.kind.is_live);
-    let mut counted = Counted {
-        input,
-        bytes: &bytes,
-    };
+    let lookout = mem::replace(&mut passage.lookout, Lookout::new(alloc, passage.rt, false));
+    let mut watch = Watch::new(alloc, line, rows, bytes, lookout, passage.rt);
     let filtered = filter_rows(
         alloc,
         passage.rows,
         additions,
         memory,
         passage.counts,
-        &mut counted,
-        &mut out,
+        input,
+        console.out,
         &mut watch,
     );
     watch.clear();
     passage
         .notes
         .add(watch.quoted, watch.occupied, watch.too_long);
-    passage.bytes = bytes.get();
-    let filtered = out.of_filter(filtered)?;
+    passage.lookout = watch.lookout;
+    let filtered = console.out.of_filter(filtered)?;
     passage.counts = filtered.counts;
     Ok(filtered.is_end)
+}
+
+// Says what is wrong with the first rows. Standard output stays as it is: what is said goes to standard error alone.
+fn check_rows<R: Files + Clock, O: Write, E: Pace>(
+    records: &Notes,
+    databases: &[Database],
+    passage: &mut Passage<'_, '_, '_, R>,
+    console: &mut Console<'_, Output<'_, O>, E>,
+)
+    ensures output { console.new.out.now ≡ console.old.out.now }
+    ensures rows { passage.new.rows ≡ passage.old.rows }
+    ensures reloads { passage.new.reloads ≡ passage.old.reloads }
+    ensures counts { passage.new.counts ≡ passage.old.counts }
+{
+    let mut none = io::sink();
+    let mut reports = Console::new(console.alloc, console.terminals, &mut none, console.errors);
+    passage
+        .notes
+        .check(passage.counts, records, databases, &mut reports);
+    passage.is_checked = true;
 }
 
 // Copies rows up to the input's end, or until a file was replaced, and says whether that was the end. What is wrong with the
@@ -232,23 +262,35 @@ fn copy_rows<A: Additions, R: Files + Clock, I: Live, O: Write, E: Pace>(
     additions: &A,
     memory: &mut A::Memory,
     databases: &[Database],
-    input: &mut I,
+    input: &mut Counted<'_, I>,
     passage: &mut Passage<'_, '_, '_, R>,
-    console: &mut Console<'_, O, E>,
+    console: &mut Console<'_, Output<'_, O>, E>,
 ) -> Result<bool, ProgramError>
 where
     A::Memory: Remembering,
     requires { A.fits additions.now memory.old }
+    ensures whole { OnOk result (IsFiltered passage.old.rows (A.adds additions.now)
+        (I.remaining input.old.input.now) (I.remaining input.new.input.now)
+        (O.contents console.old.out.now.out.now) (O.contents console.new.out.now.out.now)
+        passage.old.counts passage.new.counts) }
+    ensures end { IfOk result (λ is_end. is_end ≡ true
+        → OnSome (I.remaining input.old.input.now) (IsAtEnd (I.remaining input.new.input.now))) }
+    ensures asked { IfOk result (λ is_end. is_end ≡ false
+        → (passage.old.reloads ≡ true) × (passage.new.lookout.has_seen ≡ true)) }
+    ensures begun { OnErr result (IsBegun passage.old.rows (A.adds additions.now)
+        (I.remaining input.old.input.now)
+        (O.contents console.old.out.now.out.now) (O.contents console.new.out.now.out.now)) }
+    ensures rows { passage.new.rows ≡ passage.old.rows }
+    ensures reloads { passage.new.reloads ≡ passage.old.reloads }
 {
-    let is_end = filter(additions, memory, input, passage, console)?;
-    if is_end || passage.lookout.has_seen {
-        return Ok(is_end);
+    for _ in 0..u64::MAX {
+        let is_end = filter(additions, memory, input, passage, console)?;
+        if is_end || passage.reloads && passage.lookout.has_seen {
+            return Ok(is_end);
+        }
+        check_rows(memory.records(), databases, passage, console);
     }
-    passage
-        .notes
-        .check(passage.counts, memory.records(), databases, console);
-    passage.is_checked = true;
-    filter(additions, memory, input, passage, console)
+    Err(ProgramError::from(io::Error::from(ErrorKind::TimedOut)))
 }
 
 // Reports how all rows fared, and answers the status. Standard output is flushed.
@@ -274,13 +316,26 @@ fn enrich_with<A: Additions, R: Files + Clock, I: Live, O: Write, E: Pace>(
     additions: &A,
     memory: A::Memory,
     databases: &[Database],
-    input: &mut I,
+    input: &mut Counted<'_, I>,
     passage: &mut Passage<'_, '_, '_, R>,
-    console: &mut Console<'_, O, E>,
+    console: &mut Console<'_, Output<'_, O>, E>,
 ) -> Result<bool, ProgramError>
 where
     A::Memory: Remembering,
     requires { A.fits additions.now memory }
+    ensures whole { OnOk result (IsFiltered passage.old.rows (A.adds additions.now)
+        (I.remaining input.old.input.now) (I.remaining input.new.input.now)
+        (O.contents console.old.out.now.out.now) (O.contents console.new.out.now.out.now)
+        passage.old.counts passage.new.counts) }
+    ensures end { IfOk result (λ is_end. is_end ≡ true
+        → OnSome (I.remaining input.old.input.now) (IsAtEnd (I.remaining input.new.input.now))) }
+    ensures asked { IfOk result (λ is_end. is_end ≡ false
+        → (passage.old.reloads ≡ true) × (passage.new.lookout.has_seen ≡ true)) }
+    ensures begun { OnErr result (IsBegun passage.old.rows (A.adds additions.now)
+        (I.remaining input.old.input.now)
+        (O.contents console.old.out.now.out.now) (O.contents console.new.out.now.out.now)) }
+    ensures rows { passage.new.rows ≡ passage.old.rows }
+    ensures reloads { passage.new.reloads ≡ passage.old.reloads }
 {
     let mut memory = memory;
     let done = copy_rows(additions, &mut memory, databases, input, passage, console);
@@ -292,11 +347,28 @@ where
 fn enrich_by<D: Ask, W: Template, R: Files + Clock, I: Live, O: Write, E: Pace>(
     enrichment: &Enrichment<D, W>,
     databases: &[Database],
-    input: &mut I,
+    input: &mut Counted<'_, I>,
     passage: &mut Passage<'_, '_, '_, R>,
-    console: &mut Console<'_, O, E>,
-) -> Result<bool, ProgramError> {
-    let memory = enrichment.memory(passage.take_records(console.alloc))?;
+    console: &mut Console<'_, Output<'_, O>, E>,
+) -> Result<bool, ProgramError>
+    ensures whole { OnOk result (IsFiltered passage.old.rows (additions_of
+        (W.template enrichment.now.what) (D.databases enrichment.now.from))
+        (I.remaining input.old.input.now) (I.remaining input.new.input.now)
+        (O.contents console.old.out.now.out.now) (O.contents console.new.out.now.out.now)
+        passage.old.counts passage.new.counts) }
+    ensures end { IfOk result (λ is_end. is_end ≡ true
+        → OnSome (I.remaining input.old.input.now) (IsAtEnd (I.remaining input.new.input.now))) }
+    ensures asked { IfOk result (λ is_end. is_end ≡ false
+        → (passage.old.reloads ≡ true) × (passage.new.lookout.has_seen ≡ true)) }
+    ensures begun { OnErr result (IsBegun passage.old.rows (additions_of
+        (W.template enrichment.now.what) (D.databases enrichment.now.from))
+        (I.remaining input.old.input.now)
+        (O.contents console.old.out.now.out.now) (O.contents console.new.out.now.out.now)) }
+    ensures rows { passage.new.rows ≡ passage.old.rows }
+    ensures reloads { passage.new.reloads ≡ passage.old.reloads }
+{
+    let records = mem::replace(&mut passage.records, Notes::new(console.alloc));
+    let memory = enrichment.memory(records)?;
     enrich_with(enrichment, memory, databases, input, passage, console)
 }
 
@@ -304,10 +376,26 @@ fn enrich_by<D: Ask, W: Template, R: Files + Clock, I: Live, O: Write, E: Pace>(
 fn enrich_from<W: Template + Drop, R: Files + Clock, I: Live, O: Write, E: Pace>(
     what: W,
     databases: &[Database],
-    input: &mut I,
+    input: &mut Counted<'_, I>,
     passage: &mut Passage<'_, '_, '_, R>,
-    console: &mut Console<'_, O, E>,
-) -> Result<bool, ProgramError> {
+    console: &mut Console<'_, Output<'_, O>, E>,
+) -> Result<bool, ProgramError>
+    ensures whole { OnOk result (IsFiltered passage.old.rows
+        (additions_of (W.template what) databases.now)
+        (I.remaining input.old.input.now) (I.remaining input.new.input.now)
+        (O.contents console.old.out.now.out.now) (O.contents console.new.out.now.out.now)
+        passage.old.counts passage.new.counts) }
+    ensures end { IfOk result (λ is_end. is_end ≡ true
+        → OnSome (I.remaining input.old.input.now) (IsAtEnd (I.remaining input.new.input.now))) }
+    ensures asked { IfOk result (λ is_end. is_end ≡ false
+        → (passage.old.reloads ≡ true) × (passage.new.lookout.has_seen ≡ true)) }
+    ensures begun { OnErr result (IsBegun passage.old.rows
+        (additions_of (W.template what) databases.now)
+        (I.remaining input.old.input.now)
+        (O.contents console.old.out.now.out.now) (O.contents console.new.out.now.out.now)) }
+    ensures rows { passage.new.rows ≡ passage.old.rows }
+    ensures reloads { passage.new.reloads ≡ passage.old.reloads }
+{
     let alloc = console.alloc;
     if let [database] = databases {
         let from = OneDatabase { reader: database };
@@ -323,7 +411,14 @@ fn enrich_from<W: Template + Drop, R: Files + Clock, I: Live, O: Write, E: Pace>
 }
 
 // Fields after each row.
-fn cells_of(task: RowsTask<'_>, columns: Columns) -> RowCells<'_> {
+fn cells_of(task: RowsTask<'_>, columns: Columns) -> RowCells<'_>
+    ensures rows { result.rows ≡ task.entry.rows }
+    ensures reading { result.reading ≡ task.entry.reading }
+    ensures column { result.column ≡ columns.address }
+    ensures breaks { result.breaks ≡ columns.breaks }
+    ensures network { result.network ≡ task.entry.network }
+    ensures paths { result.paths ≡ task.entry.paths }
+{
     RowCells {
         rows: task.rows,
         reading: task.reading,
@@ -349,7 +444,9 @@ fn record_fields<'k>(alloc: Global, keys: &'k [String]) -> Result<Vec<NamedField
 }
 
 // What the member has, of so many databases: of one alone without a field all of its record.
-fn kind_of(task: &JsonTask<'_>, databases: &[Database]) -> MemberKind {
+fn kind_of(task: &JsonTask<'_>, databases: &[Database]) -> MemberKind
+    ensures { has_network result ≡ task.now.network }
+{
     if task.network {
         MemberKind::NetworkAndFields
     } else if task.fields.is_empty() && databases.len() > 1 {
@@ -378,10 +475,26 @@ fn fields_of<'k>(
 fn enrich_json<R: Files + Clock, I: Live, O: Write, E: Pace>(
     databases: &[Database],
     task: JsonTask<'_>,
-    input: &mut I,
+    input: &mut Counted<'_, I>,
     passage: &mut Passage<'_, '_, '_, R>,
-    console: &mut Console<'_, O, E>,
-) -> Result<bool, ProgramError> {
+    console: &mut Console<'_, Output<'_, O>, E>,
+) -> Result<bool, ProgramError>
+    ensures whole { OnOk result ((template : SpecTemplate) × IsMemberOf task.entry template
+        × IsFiltered passage.old.rows (additions_of template databases.now)
+        (I.remaining input.old.input.now) (I.remaining input.new.input.now)
+        (O.contents console.old.out.now.out.now) (O.contents console.new.out.now.out.now)
+        passage.old.counts passage.new.counts) }
+    ensures end { IfOk result (λ is_end. is_end ≡ true
+        → OnSome (I.remaining input.old.input.now) (IsAtEnd (I.remaining input.new.input.now))) }
+    ensures asked { IfOk result (λ is_end. is_end ≡ false
+        → (passage.old.reloads ≡ true) × (passage.new.lookout.has_seen ≡ true)) }
+    ensures begun { OnErr result ((template : SpecTemplate) × IsMemberOf task.entry template
+        × IsBegun passage.old.rows (additions_of template databases.now)
+        (I.remaining input.old.input.now)
+        (O.contents console.old.out.now.out.now) (O.contents console.new.out.now.out.now)) }
+    ensures rows { passage.new.rows ≡ passage.old.rows }
+    ensures reloads { passage.new.reloads ≡ passage.old.reloads }
+{
     let alloc = console.alloc;
     let kind = kind_of(&task, databases);
     let keys = keys_of_all(alloc, passage.names, databases, ADDRESS)?;
@@ -397,14 +510,23 @@ fn enrich_json<R: Files + Clock, I: Live, O: Write, E: Pace>(
     enrich_from(what, databases, input, passage, console)
 }
 
-// Opens what took the place of files, if that was seen. What was noted of records is of those before.
+// Opens what took the place of files, if that was seen. What was noted of records is of those before. Standard output stays as it
+// is: what is said goes to standard error alone.
 fn take_new<R: Files + Clock, O: Write, E: Pace>(
     databases: &mut Vec<Database>,
     passage: &mut Passage<'_, '_, '_, R>,
     console: &mut Console<'_, O, E>,
-) {
-    if passage.lookout.look(passage.rt) {
-        reopen(passage.rt, &mut passage.lookout, databases, console);
+)
+    ensures output { console.new.out.now ≡ console.old.out.now }
+    ensures rows { passage.new.rows ≡ passage.old.rows }
+    ensures counts { passage.new.counts ≡ passage.old.counts }
+    ensures reloads { passage.new.reloads ≡ passage.old.reloads }
+    ensures kept { passage.old.reloads ≡ false → databases.new ≡ databases.old }
+{
+    if passage.reloads && passage.lookout.look(passage.rt) {
+        let mut none = io::sink();
+        let mut reports = Console::new(console.alloc, console.terminals, &mut none, console.errors);
+        reopen(passage.rt, &mut passage.lookout, databases, &mut reports);
         passage.records.records.clear();
     }
 }
@@ -414,10 +536,22 @@ fn copy_columns<R: Files + Clock, I: Live, O: Write, E: Pace>(
     databases: &mut Vec<Database>,
     arguments: &EnrichArguments<'_>,
     columns: Columns,
-    input: &mut I,
+    input: &mut Counted<'_, I>,
     passage: &mut Passage<'_, '_, '_, R>,
-    console: &mut Console<'_, O, E>,
-) -> Result<(), ProgramError> {
+    console: &mut Console<'_, Output<'_, O>, E>,
+) -> Result<(), ProgramError>
+    ensures whole { OnOk result (IsEnriched passage.old.rows
+        (AreAsked passage.old.reloads databases.old.items (AreCellsAsked arguments.now columns))
+        (I.remaining input.old.input.now) (I.remaining input.new.input.now)
+        (O.contents console.old.out.now.out.now) (O.contents console.new.out.now.out.now)
+        passage.old.counts passage.new.counts) }
+    ensures end { OnOk result
+        (OnSome (I.remaining input.old.input.now) (IsAtEnd (I.remaining input.new.input.now))) }
+    ensures begun { OnErr result (IsEnrichedFront passage.old.rows
+        (AreAsked passage.old.reloads databases.old.items (AreCellsAsked arguments.now columns))
+        (I.remaining input.old.input.now)
+        (O.contents console.old.out.now.out.now) (O.contents console.new.out.now.out.now)) }
+{
     for _ in 0..u64::MAX {
         take_new(databases, passage, console);
         let task = rows_task(console.alloc, &*arguments)?;
@@ -426,7 +560,7 @@ fn copy_columns<R: Files + Clock, I: Live, O: Write, E: Pace>(
             return Ok(());
         }
     }
-    Ok(())
+    Err(ProgramError::from(io::Error::from(ErrorKind::TimedOut)))
 }
 
 // Copies all lines with a member more in each object. Where a file is replaced, the lines after that are looked up in the new
@@ -434,10 +568,22 @@ fn copy_columns<R: Files + Clock, I: Live, O: Write, E: Pace>(
 fn copy_objects<R: Files + Clock, I: Live, O: Write, E: Pace>(
     databases: &mut Vec<Database>,
     arguments: &EnrichArguments<'_>,
-    input: &mut I,
+    input: &mut Counted<'_, I>,
     passage: &mut Passage<'_, '_, '_, R>,
-    console: &mut Console<'_, O, E>,
-) -> Result<(), ProgramError> {
+    console: &mut Console<'_, Output<'_, O>, E>,
+) -> Result<(), ProgramError>
+    ensures whole { OnOk result (IsEnriched passage.old.rows
+        (AreAsked passage.old.reloads databases.old.items (IsMemberAsked arguments.now))
+        (I.remaining input.old.input.now) (I.remaining input.new.input.now)
+        (O.contents console.old.out.now.out.now) (O.contents console.new.out.now.out.now)
+        passage.old.counts passage.new.counts) }
+    ensures end { OnOk result
+        (OnSome (I.remaining input.old.input.now) (IsAtEnd (I.remaining input.new.input.now))) }
+    ensures begun { OnErr result (IsEnrichedFront passage.old.rows
+        (AreAsked passage.old.reloads databases.old.items (IsMemberAsked arguments.now))
+        (I.remaining input.old.input.now)
+        (O.contents console.old.out.now.out.now) (O.contents console.new.out.now.out.now)) }
+{
     let path = arguments.json.unwrap_or("");
     for _ in 0..u64::MAX {
         take_new(databases, passage, console);
@@ -446,7 +592,62 @@ fn copy_objects<R: Files + Clock, I: Live, O: Write, E: Pace>(
             return Ok(());
         }
     }
-    Ok(())
+    Err(ProgramError::from(io::Error::from(ErrorKind::TimedOut)))
+}
+
+// Copies the mark of an input, and then all rows with fields after each. The first row may name the columns.
+fn copy_all_rows<R: Files + Clock, I: Live, O: Write, E: Pace>(
+    databases: &mut Vec<Database>,
+    task: &RowsTask<'_>,
+    arguments: &EnrichArguments<'_>,
+    input: &mut I,
+    passage: &mut Passage<'_, '_, '_, R>,
+    console: &mut Console<'_, Output<'_, O>, E>,
+) -> Result<(), ProgramError>
+    ensures { OnOk result (AreRowsCopied passage.old.rows task.now
+        (λ columns. AreAsked passage.old.reloads databases.old.items
+        (AreCellsAsked arguments.now columns)) (I.remaining input.old)
+        (O.contents console.old.out.now.out.now) (O.contents console.new.out.now.out.now)
+        passage.old.counts passage.new.counts) }
+{
+    copy_mark(input, console.out)?;
+    let columns = columns_of_input(console.alloc, task, input, console.out)?;
+    let bytes = Cell::new(0);
+    let mut counted = Counted {
+        input,
+        bytes: &bytes,
+    };
+    copy_columns(
+        databases,
+        arguments,
+        columns,
+        &mut counted,
+        passage,
+        console,
+    )
+}
+
+// Copies the mark of an input, and then all lines with a member more in each object.
+fn copy_all_objects<R: Files + Clock, I: Live, O: Write, E: Pace>(
+    databases: &mut Vec<Database>,
+    arguments: &EnrichArguments<'_>,
+    input: &mut I,
+    passage: &mut Passage<'_, '_, '_, R>,
+    console: &mut Console<'_, Output<'_, O>, E>,
+) -> Result<(), ProgramError>
+    ensures { OnOk result (AreAllCopied passage.old.rows
+        (AreAsked passage.old.reloads databases.old.items (IsMemberAsked arguments.now))
+        (I.remaining input.old)
+        (O.contents console.old.out.now.out.now) (O.contents console.new.out.now.out.now)
+        passage.old.counts passage.new.counts) }
+{
+    copy_mark(input, console.out)?;
+    let bytes = Cell::new(0);
+    let mut counted = Counted {
+        input,
+        bytes: &bytes,
+    };
+    copy_objects(databases, arguments, &mut counted, passage, console)
 }
 
 // Copies all rows with fields after each, and reports how they fared. The first row may name the columns.
@@ -458,11 +659,12 @@ fn enrich_all_rows<R: Files + Clock, I: Live, O: Write, E: Pace>(
     passage: &mut Passage<'_, '_, '_, R>,
     console: &mut Console<'_, O, E>,
 ) -> Result<u8, ProgramError> {
-    copy_mark(input, console.out)?;
-    let columns = columns_of_input(console.alloc, task, input, console.out)?;
-    copy_columns(databases, arguments, columns, input, passage, console)?;
+    let alloc = console.alloc;
+    let mut out = Output::new(console.out, passage.kind.is_live);
+    let mut rows = Console::new(alloc, console.terminals, &mut out, console.errors);
+    copy_all_rows(databases, task, arguments, input, passage, &mut rows)?;
     let (counts, before) = (passage.counts, passage.notes.before);
-    let text = text_of_rows(console.alloc, counts, &passage.records, before);
+    let text = text_of_rows(alloc, counts, &passage.records, before);
     finish(databases.as_slice(), text, passage, console)
 }
 
@@ -475,9 +677,11 @@ fn enrich_all_objects<R: Files + Clock, I: Live, O: Write, E: Pace>(
     passage: &mut Passage<'_, '_, '_, R>,
     console: &mut Console<'_, O, E>,
 ) -> Result<u8, ProgramError> {
-    copy_mark(input, console.out)?;
-    copy_objects(databases, arguments, input, passage, console)?;
-    let text = text_of_members(console.alloc, passage.counts, name, &*passage.notes);
+    let alloc = console.alloc;
+    let mut out = Output::new(console.out, passage.kind.is_live);
+    let mut lines = Console::new(alloc, console.terminals, &mut out, console.errors);
+    copy_all_objects(databases, arguments, input, passage, &mut lines)?;
+    let text = text_of_members(alloc, passage.counts, name, &*passage.notes);
     finish(databases.as_slice(), text, passage, console)
 }
 

@@ -1,7 +1,7 @@
 //! What is noted of the records that are read, so that it can be said at the end what was amiss.
-use crate::asked::asked_of;
 use crate::cache::Keeping;
 use crate::layers::can_ask_any;
+use mmdb_layout::asked_of;
 use mmdb_reader::{MaxMindDbError, Reader};
 use mmdb_value::Value;
 use std::alloc::{AllocError, Global};

@@ -1,13 +1,26 @@
 //! Standard output, as rows are written to it.
+ghost use Rattle.std.specs.Prelude.{◌≡◌, IfOk, OnErr, OnOk, IsErr};
+ghost use Rattle.std.specs.Io.KnownBytes.{Appends};
+
 use mmdb_console::ProgramError;
 use std::io::{self, ErrorKind, Write};
+
+/// Writes a text; an `Err` is `Write`.
+pub(crate) fn put<O: Write>(text: &[u8], out: &mut O) -> Result<(), ProgramError>
+    ensures { OnOk result (Appends (O.contents out.old) (O.contents out.new) text.now) }
+{
+    match out.write_all(text) {
+        Ok(()) => Ok(()),
+        Err(error) => Err(ProgramError::Write(error)),
+    }
+}
 
 /// An output that knows whether it failed. A filter of rows reports the error of a read or of a write alike. What a filter
 /// flushes before each read goes out where the input is live. It ends at a write of no byte, and goes on after an interrupted
 /// one.
 #[derive(Drop)]
 pub(crate) struct Output<'o, O: Write> {
-    out: &'o mut O,
+    pub(crate) out: &'o mut O,
     is_live: bool,
     has_failed: bool,
 }
@@ -22,7 +35,10 @@ impl<'o, O: Write> Output<'o, O> {
     }
 
     /// What a filter of rows answered that wrote here, as the program reports it.
-    pub(crate) fn of_filter<T>(&self, done: io::Result<T>) -> Result<T, ProgramError> {
+    pub(crate) fn of_filter<T>(&self, done: io::Result<T>) -> Result<T, ProgramError>
+        ensures value { IfOk result (λ value. done ≡ Ok value) }
+        ensures failed { OnErr result (IsErr done) }
+    {
         match done {
             Ok(value) => Ok(value),
             Err(error) if self.has_failed => Err(ProgramError::of_write(error)),

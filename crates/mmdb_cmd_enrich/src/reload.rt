@@ -1,5 +1,5 @@
 //! Files of databases that are replaced while rows pass.
-ghost use Rattle.std.specs.Prelude.{◌≡◌};
+ghost use Rattle.std.specs.Prelude.{◌≡◌, true, false};
 
 use mmdb_console::{Console, line_of};
 use mmdb_layout::Database;
@@ -63,7 +63,7 @@ impl WatchedFile {
 #[derive(Drop)]
 pub(crate) struct Lookout {
     /// Whether replaced files are wanted.
-    is_wanted: bool,
+    pub(crate) is_wanted: bool,
     files: Vec<WatchedFile>,
     /// When they were looked at last.
     looked: Duration,
@@ -107,7 +107,10 @@ impl Lookout {
     }
 
     // Whether it is time to look again.
-    fn is_due<R: Clock>(&mut self, rt: &R) -> bool {
+    fn is_due<R: Clock>(&mut self, rt: &R) -> bool
+        ensures seen { self.new.has_seen ≡ self.old.has_seen }
+        ensures wanted { self.new.is_wanted ≡ self.old.is_wanted }
+    {
         let Ok(now) = rt.monotonic() else {
             return false;
         };
@@ -120,12 +123,13 @@ impl Lookout {
 
     /// Whether a file was replaced, as far as it is time to look.
     pub(crate) fn look<R: Files + Clock>(&mut self, rt: &R) -> bool
-        ensures { result ≡ self.new.has_seen }
+        ensures seen { result ≡ self.new.has_seen }
+        ensures stays { self.old.has_seen ≡ true → self.new.has_seen ≡ true }
+        ensures unwanted { self.old.is_wanted ≡ false → self.new.has_seen ≡ self.old.has_seen }
+        ensures wanted { self.new.is_wanted ≡ self.old.is_wanted }
     {
         if self.is_wanted && self.is_due(rt) {
-            for file in &self.files {
-                self.has_seen |= file.other(rt).is_some();
-            }
+            self.has_seen |= self.files.iter().any(|file| file.other(rt).is_some());
         }
         self.has_seen
     }

@@ -1,4 +1,7 @@
 //! What `enrich` is asked for.
+ghost use Rattle.std.specs.Prelude.{◌≡◌, IfOk, option_map};
+ghost use Rattle.mmdb_cmd_enrich.specs.Tasks.{name_asked, reading_asked, rows_asked, rows_of_text};
+
 use crate::members::NamedField;
 use crate::warnings::AddressPlace;
 use mmdb_addresses::Reading;
@@ -76,7 +79,10 @@ pub(crate) const LINES: Rows = Rows::Lines { delimiter: b'\t' };
 
 // What rows are, by what separates their cells: those of a line tabs, or what is asked for where quotes mean nothing;
 // else they are CSV.
-fn rows_of(alloc: Global, delimiter: Option<&str>, no_quotes: bool) -> Result<Rows, NoRequest> {
+fn rows_of(alloc: Global, delimiter: Option<&str>, no_quotes: bool) -> Result<Rows, NoRequest>
+    ensures { IfOk result (λ rows.
+        rows ≡ rows_of_text (option_map (λ text. text.now) delimiter.entry) no_quotes) }
+{
     let Some(text) = delimiter else {
         return Ok(LINES);
     };
@@ -95,7 +101,9 @@ fn rows_of(alloc: Global, delimiter: Option<&str>, no_quotes: bool) -> Result<Ro
 }
 
 // Where in a cell, a string or a row the address is.
-fn reading_of(arguments: &EnrichArguments<'_>) -> Reading {
+fn reading_of(arguments: &EnrichArguments<'_>) -> Reading
+    ensures { result ≡ reading_asked arguments.now }
+{
     match arguments.hop {
         Hop::Last if arguments.anywhere => Reading::LastAnywhere,
         _ if arguments.anywhere => Reading::Anywhere,
@@ -106,7 +114,9 @@ fn reading_of(arguments: &EnrichArguments<'_>) -> Reading {
 }
 
 // The same, or that an option is given where it does nothing: where an address is looked for anywhere it is no cell's.
-fn tested_reading(alloc: Global, arguments: &EnrichArguments<'_>) -> Result<Reading, NoRequest> {
+fn tested_reading(alloc: Global, arguments: &EnrichArguments<'_>) -> Result<Reading, NoRequest>
+    ensures { IfOk result (λ reading. reading ≡ reading_asked arguments.now) }
+{
     if arguments.anywhere && arguments.exact {
         return Err(NoRequest::bad_argument(alloc, "--exact", "of no use with --anywhere"));
     }
@@ -249,7 +259,12 @@ pub(crate) fn json_task<'a>(
     alloc: Global,
     path: &'a str,
     arguments: &'a EnrichArguments<'a>,
-) -> Result<JsonTask<'a>, NoRequest> {
+) -> Result<JsonTask<'a>, NoRequest>
+    ensures reading { IfOk result (λ task. task.reading ≡ reading_asked arguments.now) }
+    ensures name { IfOk result (λ task. task.into.now ≡ name_asked arguments.now) }
+    ensures nulls { IfOk result (λ task. task.nulls ≡ arguments.now.nulls) }
+    ensures network { IfOk result (λ task. task.network ≡ arguments.now.network) }
+{
     let into = arguments.into.unwrap_or("geo");
     if into.is_empty() {
         return Err(NoRequest::bad_argument(alloc, "--into", "an empty name"));
@@ -269,7 +284,12 @@ pub(crate) fn json_task<'a>(
 pub(crate) fn rows_task<'a>(
     alloc: Global,
     arguments: &'a EnrichArguments<'a>,
-) -> Result<RowsTask<'a>, NoRequest> {
+) -> Result<RowsTask<'a>, NoRequest>
+    ensures rows { IfOk result (λ task. task.rows ≡ rows_asked arguments.now) }
+    ensures reading { IfOk result (λ task. task.reading ≡ reading_asked arguments.now) }
+    ensures network { IfOk result (λ task. task.network ≡ arguments.now.network) }
+    ensures header { IfOk result (λ task. task.header ≡ arguments.now.header) }
+{
     if arguments.into.is_some() {
         return Err(NoRequest::bad_argument(alloc, "--into", "needs a --json"));
     }

@@ -32,7 +32,7 @@ pub(crate) struct Watch<'e, E: Pace, R: Files + Clock> {
     /// How many bytes of the input passed.
     bytes: &'e Cell<u64>,
     /// Where it ends because a file was replaced.
-    lookout: &'e mut Lookout,
+    pub(crate) lookout: Lookout,
     rt: &'e R,
     /// How many rows stay in quotes.
     pub(crate) quoted: u64,
@@ -48,7 +48,7 @@ impl<'e, E: Pace, R: Files + Clock> Watch<'e, E, R> {
         line: ProgressLine<'e, E>,
         rows: WatchedRows,
         bytes: &'e Cell<u64>,
-        lookout: &'e mut Lookout,
+        lookout: Lookout,
         rt: &'e R,
     ) -> Watch<'e, E, R> {
         Watch {
@@ -78,7 +78,7 @@ impl<'e, E: Pace, R: Files + Clock> Watch<'e, E, R> {
 impl<'e, E: Pace, R: Files + Clock> Progress for Watch<'e, E, R> {
     ghost use Rattle.std.specs.Prelude.{◌≡◌, ◌⊎◌, true};
 
-    ghost ends = { λ watch. (watch.rows.stops ≡ true) ⊎ (watch.lookout.now.has_seen ≡ true) };
+    ghost ends = { λ watch. (watch.rows.stops ≡ true) ⊎ (watch.lookout.has_seen ≡ true) };
 
     fn passed(&mut self, counts: Counts) -> bool {
         if self.rows.stops {

@@ -16,8 +16,9 @@ use Rattle.mmdb_reader.specs.Many.{IsLookup}
 use Rattle.mmdb_reader.specs.Selecting.{SelectsTo}
 use Rattle.mmdb_reader.specs.declared.path.PathElement.{PathElement}
 use Rattle.mmdb_found.specs.Found.{value_found}
+use Rattle.mmdb_layout.specs.Asked.{Asks}
 use Rattle.mmdb_layout.specs.Reading.{reads_in}
-use Rattle.mmdb_cmd_show.specs.Asked.{Asks, Rejects, RejectsOrHas, Finds, Reads, CanBeAsked, CanOneBeAsked, IsPassed, Has, FindsAmong, OfName}
+use Rattle.mmdb_cmd_show.specs.Asked.{Rejects, Finds, Reads, CanBeAsked, CanOneBeAsked, IsPassed, Has, FindsAmong, OfName}
 use Rattle.mmdb_cmd_show.specs.declared.databases.ReadError.{ReadError}
 use Rattle.mmdb_cmd_show.specs.declared.databases.ReadError.TheVariants.{Memory as NoMemory, Unread}
 use Rattle.mmdb_cmd_show.specs.declared.databases.ShownDatabase.{ShownDatabase}
@@ -86,19 +87,6 @@ pub unread_there : (db : Database) (address asked : IpAddr) (path : List PathEle
 unread_there db address asked path leaf s None e asks answers same h = absurd h
 unread_there db address asked path leaf s (Some offset) e asks answers same h =
     declined e (value_found path s offset) (λ none. (asked, asks, inr (Some offset, (leaf, answers), sym none ∙ ap (λ t. value_found path t offset) same))) h
-
--- what an offset that was found says
-pub has : (db : Database) (address : IpAddr) (leaf : List Bool) (offset found : Option ℕ) → offset ≡ found → true ≡ is_some offset → Answers db address leaf (outcome_at found) → RejectsOrHas db address
-has db address leaf None None e is answers = absurd (cc)
-has db address leaf None (Some x) e is answers = absurd (cc)
-has db address leaf (Some y) None e is answers = absurd (cc)
-has db address leaf (Some y) (Some x) e is answers = inr (x, (leaf, answers))
-
-pub lacks : (db : Database) (address : IpAddr) (leaf : List Bool) (offset found : Option ℕ) → offset ≡ found → false ≡ is_some offset → Answers db address leaf (outcome_at found) → Finds db address None
-lacks db address leaf None None e is answers = (leaf, answers)
-lacks db address leaf None (Some x) e is answers = absurd (cc)
-lacks db address leaf (Some y) None e is answers = absurd (cc)
-lacks db address leaf (Some y) (Some x) e is answers = absurd (cc)
 
 -- one of databases can be asked
 abbrev Can : IpAddr → ShownDatabase → Type 0

@@ -7,8 +7,9 @@ use Rattle.mmdb_value.specs.Values.{value_tree}
 use Rattle.mmdb_reader.specs.File.{Database, data_section}
 use Rattle.mmdb_reader.specs.Lookup.{Answers as AnswersAt, outcome_at}
 use Rattle.mmdb_reader.specs.Shown.{ShowsAnswer}
+use Rattle.mmdb_layout.specs.Asked.{Asks}
 use Rattle.mmdb_layout.specs.Reading.{reads_in}
-use Rattle.mmdb_cmd_show.specs.Asked.{Asks, Reads, IsPassed}
+use Rattle.mmdb_cmd_show.specs.Asked.{Reads, IsPassed}
 use Rattle.mmdb_cmd_show.specs.declared.answer.DatabaseAnswer.{DatabaseAnswer}
 use Rattle.mmdb_cmd_show.specs.declared.databases.Answers.{Answers as AllAnswers}
 use Rattle.mmdb_cmd_show.specs.declared.databases.ShownDatabase.{ShownDatabase}

@@ -1,19 +1,16 @@
 -- What databases that are asked in turn have for an address.
 use Rattle.std.specs.Prelude.{◌≡◌, ◌≢◌, ◌⊎◌, List, [], ◌∷◌, ℕ, Bool, Option, Some, None, Result, Ok, Err}
-use Rattle.std.specs.Net.Addr.{MatchIp, IsIpv4Mapped, ipv6_segments, IsCanonicalOf}
+use Rattle.std.specs.Net.Addr.{MatchIp, IsIpv4Mapped, ipv6_segments}
 use Rattle.std.specs.declared.net.ip_addr.IpAddr.{IpAddr}
 use Rattle.mmdb_format.specs.Unfolding.{Tree}
 use Rattle.mmdb_reader.specs.File.{Database, data_section}
 use Rattle.mmdb_reader.specs.Lookup.{CanAsk, IsInvalidAt, Answers, outcome_at}
 use Rattle.mmdb_reader.specs.declared.path.PathElement.{PathElement}
+use Rattle.mmdb_layout.specs.Asked.{Asks}
 use Rattle.mmdb_layout.specs.Reading.{reads_in}
 use Rattle.mmdb_cmd_show.specs.declared.databases.ShownDatabase.{ShownDatabase}
 use Rattle.mmdb_cmd_show.specs.declared.databases.ReadError.{ReadError}
 use Rattle.mmdb_cmd_show.specs.declared.databases.ReadError.TheVariants.{Memory, Unread}
-
--- the address of IPv4 to which one is mapped (`::ffff:1.2.3.4`), or else the address itself
-abbrev pub IsCanonical : IpAddr → IpAddr → Type 0
-IsCanonical address canonical = MatchIp address (λ _. canonical ≡ address) (λ a. IsCanonicalOf a canonical)
 
 -- a lookup of an address fails
 abbrev pub Rejects : Database → IpAddr → Type 0
@@ -22,17 +19,6 @@ Rejects db address = (¬ CanAsk db address) ⊎ IsInvalidAt db address
 -- a lookup of an address finds the record at an offset, or none
 abbrev pub Finds : Database → IpAddr → Option ℕ → Type 0
 Finds db address offset = (leaf : List Bool) × Answers db address leaf (outcome_at offset)
-
--- a lookup of an address fails, or finds a record
-abbrev pub RejectsOrHas : Database → IpAddr → Type 0
-RejectsOrHas db address = Rejects db address ⊎ ((offset : ℕ) × Finds db address (Some offset))
-
--- A database is asked for an address as it is written. Where that is mapped to one of IPv4, a database is asked for this one
--- if it has no IPv6, or no record of the address as it is written.
-abbrev pub Asks : Database → IpAddr → IpAddr → Type 0
-Asks db address asked =
-    (IsCanonical address asked × ((asked ≡ address) ⊎ ((db.metadata.ip_version ≡ 4) ⊎ Finds db address None)))
-    ⊎ ((asked ≡ address) × (db.metadata.ip_version ≢ 4) × RejectsOrHas db address)
 
 -- What is read along a path in the record that a database has for an address: a value, or nothing. There is no answer where
 -- the lookup fails, or the record can't be read so.

@@ -5,12 +5,13 @@ ghost use Rattle.std.specs.declared.net.ip_addr.IpAddr.{IpAddr as SpecIpAddr};
 ghost use Rattle.mmdb_format.specs.Error.{MemoryApart};
 ghost use Rattle.mmdb_value.specs.Values.{value_tree};
 ghost use Rattle.mmdb_reader.specs.Many.{IsLookup};
-ghost use Rattle.mmdb_cmd_show.specs.Asked.{Asks, Reads, CanBeAsked, IsPassed, Has, FindsFirst, OfName};
+ghost use Rattle.mmdb_layout.specs.Asked.{Asks};
+ghost use Rattle.mmdb_cmd_show.specs.Asked.{Reads, CanBeAsked, IsPassed, Has, FindsFirst, OfName};
 ghost use Rattle.mmdb_cmd_show.specs.Answers.{IsAnswer, AreAnswers, AddsAnswer, named_errors};
 
 use crate::answer::DatabaseAnswer;
 use mmdb_found::value_along;
-use mmdb_layout::{Database, Found, NamedDatabase};
+use mmdb_layout::{Database, Found, NamedDatabase, asked_of};
 use mmdb_reader::{MaxMindDbError, PathElement};
 use mmdb_value::Value;
 use std::alloc::{AllocError, Global};
@@ -79,18 +80,7 @@ pub(crate) fn lookup_in(database: &Database, address: IpAddr) -> Result<Found<'_
     ensures { (asked : SpecIpAddr) × Asks database.now address asked
         × IsLookup database.now asked result }
 {
-    let canonical = address.to_canonical();
-    if canonical == address {
-        return database.lookup(address);
-    }
-    if database.metadata().ip_version == IPV4 {
-        return database.lookup(canonical);
-    }
-    let found = database.lookup(address)?;
-    if found.offset().is_some() {
-        return Ok(found);
-    }
-    database.lookup(canonical)
+    database.lookup(asked_of(database, address))
 }
 
 // Whether a database is passed over: it can't be asked for an address, and another one can.

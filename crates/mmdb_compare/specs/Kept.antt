@@ -22,6 +22,14 @@ IsIn kept (Some offsets) = HasKey offsets kept
 abbrev pub ArePairsOr : {V : Type 0} → Offsets → List (Memo Offsets V) → List (Memo Offsets V) → Type 0
 ArePairsOr put before after = (offsets : Offsets) → HasKey offsets after → HasKey offsets before ⊎ (offsets ≡ put)
 
+-- or is this one, if there is one
+abbrev pub AreOrThis : {V : Type 0} → Option Offsets → List (Memo Offsets V) → List (Memo Offsets V) → Type 0
+AreOrThis put before after = (offsets : Offsets) → HasKey offsets after → HasKey offsets before ⊎ (put ≡ Some offsets)
+
+-- each pair that is kept is that of no records
+abbrev pub AreOfNone : {V : Type 0} → List (Memo Offsets V) → Type 0
+AreOfNone kept = (offsets : Offsets) → HasKey offsets kept → AreKeptAs None None offsets
+
 -- of two records that are kept so it is kept whether they are shown the same
 abbrev pub IsKeptSo : KnownPairs → Offsets → Bool → Type 0
 IsKeptSo pairs offsets true = HasKey offsets pairs.same

@@ -7,6 +7,7 @@ pub mod Found
 pub mod Agreeing
 pub mod Same
 pub mod Kept
+pub mod Sides
 -- What only contracts of private functions and proofs name.
 pub mod Walks
 pub mod WalkList

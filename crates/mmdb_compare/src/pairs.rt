@@ -1,6 +1,6 @@
 //! Pairs of records that were compared.
-ghost use Rattle.std.specs.Prelude.{◌≡◌, true, false, Some, IfSome};
-ghost use Rattle.mmdb_compare.specs.Kept.{IsKeptAs, AreKeptAs, IsIn, IsKeptSo, ArePairsOr};
+ghost use Rattle.std.specs.Prelude.{◌≡◌, true, false, Some, IfOk, IfSome};
+ghost use Rattle.mmdb_compare.specs.Kept.{IsKeptAs, AreKeptAs, IsIn, IsKeptSo, ArePairsOr, AreOrThis, AreOfNone};
 
 use mmdb_cache::{CacheKey, CacheTable, Memo};
 use std::alloc::{AllocError, Global};
@@ -82,7 +82,9 @@ impl CacheKey for Offsets {
 }
 
 // No pairs yet.
-fn no_pairs<const SETS: usize>(alloc: Global) -> Result<CacheTable<Offsets, (), SETS>, AllocError> {
+fn no_pairs<const SETS: usize>(alloc: Global) -> Result<CacheTable<Offsets, (), SETS>, AllocError>
+    ensures { IfOk result AreOfNone }
+{
     let key = Offsets {
         old: NO_RECORD,
         new: NO_RECORD,
@@ -92,7 +94,11 @@ fn no_pairs<const SETS: usize>(alloc: Global) -> Result<CacheTable<Offsets, (), 
 
 impl KnownPairs {
     /// No pairs yet. An `Err` is of memory.
-    pub fn new(alloc: Global) -> Result<KnownPairs, AllocError> {
+    pub fn new(alloc: Global) -> Result<KnownPairs, AllocError>
+        ensures same { IfOk result (λ pairs. AreOfNone pairs.same) }
+        ensures last { IfOk result (λ pairs. AreOfNone pairs.last) }
+        ensures different { IfOk result (λ pairs. AreOfNone pairs.different) }
+    {
         Ok(KnownPairs {
             same: no_pairs(alloc)?,
             last: no_pairs(alloc)?,
@@ -123,7 +129,11 @@ impl KnownPairs {
     }
 
     /// Says of two records that are kept so that they came last.
-    pub fn keep_last(&mut self, offsets: Option<Offsets>) {
+    pub fn keep_last(&mut self, offsets: Option<Offsets>)
+        ensures last { AreOrThis offsets self.old.last self.new.last }
+        ensures same { self.new.same ≡ self.old.same }
+        ensures different { self.new.different ≡ self.old.different }
+    {
         if let Some(offsets) = offsets {
             self.last.put(offsets, ());
         }

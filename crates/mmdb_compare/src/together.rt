@@ -1,7 +1,10 @@
 //! Any number of databases side by side.
 ghost use Rattle.std.specs.Prelude.{MatchOption, IfOk, ◌≡◌, ◌+◌, ◌<◌, map, length, get_or};
+ghost use Rattle.std.specs.List.{All};
 ghost use Rattle.mmdb_blocks.specs.Blocks.{IsBlock, end};
+ghost use Rattle.mmdb_net.specs.Network.{ip_of};
 ghost use Rattle.mmdb_reader.specs.File.{Database};
+ghost use Rattle.mmdb_reader.specs.Lookup.{CanAsk};
 ghost use Rattle.mmdb_compare.specs.Listed.{all_of};
 ghost use Rattle.mmdb_compare.specs.Parts.{start_of};
 ghost use Rattle.mmdb_compare.specs.Found.{numbered_ip, IsFoundAt, AreFoundAt};
@@ -92,6 +95,8 @@ impl<'a, S: AsSlice<u8> + Drop> Together<'a, S> {
             AreBegun (map (λ d. all_of d.reader.now d.range) databases.now) together) }
         ensures databases { IfOk result (λ together.
             together.databases ≡ map (λ d. d.reader.now) databases.now) }
+        ensures asked { IfOk result (λ _.
+            All (λ d. CanAsk d.reader.now (ip_of d.range)) databases.now) }
     {
         Ok(Together {
             list: WalkList::new(alloc, databases)?,

@@ -2,7 +2,9 @@
 ghost use Rattle.std.specs.Prelude.{◌≡◌, ◌≤◌, ◌<◌, ◌&&◌, ◌||◌, ℕ, true, min, map, length, get_or, MatchOption, IfOk};
 ghost use Rattle.std.specs.List.{All};
 ghost use Rattle.mmdb_blocks.specs.Blocks.{IsBlock};
+ghost use Rattle.mmdb_net.specs.Network.{ip_of};
 ghost use Rattle.mmdb_reader.specs.File.{Database};
+ghost use Rattle.mmdb_reader.specs.Lookup.{CanAsk};
 ghost use Rattle.mmdb_compare.specs.Listed.{all_of};
 ghost use Rattle.mmdb_compare.specs.Walks.{left_of, IsFrom, last_here, is_record_here};
 ghost use Rattle.mmdb_compare.specs.Together.{offset_in};
@@ -117,6 +119,8 @@ impl<'a, S: AsSlice<u8> + Drop> WalkList<'a, S> {
             map left_of list.walks.items ≡ map (λ d. all_of d.reader.now d.range) databases.now) }
         ensures databases { IfOk result (λ list.
             databases_of list.walks.items ≡ map (λ d. d.reader.now) databases.now) }
+        ensures asked { IfOk result (λ _.
+            All (λ d. CanAsk d.reader.now (ip_of d.range)) databases.now) }
     {
         let mut walks = Vec::new(alloc);
         for place in 0..databases.len() {

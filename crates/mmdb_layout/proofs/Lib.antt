@@ -5,6 +5,5 @@ mod DigitLaws
 mod ScaleLaws
 mod BoundLaws
 mod PlainLaws
-mod OutlineLaws
 mod AmongLaws
 mod OtherLaws

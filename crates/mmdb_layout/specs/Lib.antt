@@ -1,6 +1,6 @@
 -- What has to be believed: what contracts of public items name.
-pub mod Outlines
 pub mod Reading
+pub mod Asked
 pub mod Texts
 pub mod Conditions
 pub mod Numbers

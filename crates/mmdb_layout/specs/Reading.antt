@@ -8,7 +8,7 @@ use Rattle.mmdb_value.specs.Values.{value_tree}
 use Rattle.mmdb_value.specs.declared.any_value.Value.{Value}
 use Rattle.mmdb_reader.specs.Found.{section_asked, offset_found}
 use Rattle.mmdb_found.specs.Found.{value_found}
-use Rattle.mmdb_layout.specs.Outlines.{outline_along}
+use Rattle.mmdb_query.specs.Reading.{outline_found}
 use Rattle.mmdb_reader.specs.declared.lookup_result.LookupResult.{LookupResult}
 use Rattle.mmdb_reader.specs.declared.path.PathElement.{PathElement}
 
@@ -47,7 +47,7 @@ IsReadAs answer (Err e) = Fails false e answer
 -- the same of what a condition reads: of a map or an array no more than its header
 abbrev pub outlines_in : List ℕ → Option ℕ → List PathElement → Option (Option Tree)
 outlines_in s None path = Some None
-outlines_in s (Some offset) path = outline_along path s offset
+outlines_in s (Some offset) path = outline_found path s offset
 
 abbrev pub outlines_found : {S : Type 0} {G : Ghosts S ℕ} → LookupResult S G → List PathElement → Option (Option Tree)
 outlines_found found path = outlines_in (section_asked found) (offset_found found) path

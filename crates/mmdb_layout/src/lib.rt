@@ -3,6 +3,7 @@
 #![tactic(auto)]
 
 mod absent;
+mod asked;
 mod condition;
 mod database;
 mod few;
@@ -11,11 +12,11 @@ mod layout;
 mod mapped;
 mod named;
 mod number;
-mod outline;
 mod read_along;
 mod texts;
 
 pub use absent::{FieldsMet, MOST_RECORDS, RecordAt, absent_text, similar_path};
+pub use asked::asked_of;
 pub use condition::{Condition, Requirement, is_number_of, split_condition};
 pub use database::{
     Database, Found, Networks, Opened, networks_in, open_at, open_database, open_found, path_or,

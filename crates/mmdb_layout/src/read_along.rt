@@ -4,8 +4,8 @@ ghost use Rattle.mmdb_format.specs.Unfolding.{Tree};
 ghost use Rattle.mmdb_reader.specs.declared.path.PathElement.{PathElement as SpecPathElement};
 ghost use Rattle.mmdb_layout.specs.Reading.{IsReadAs, reads_of, outlines_of};
 
-use crate::outline::outline_along;
 use mmdb_found::value_along;
+use mmdb_query::outline_along;
 use mmdb_reader::{LookupResult, MaxMindDbError, PathElement};
 use mmdb_value::Value;
 use std::alloc::Global;
@@ -59,10 +59,9 @@ impl<'a, S: AsSlice<u8> + Drop> ReadAlong for LookupResult<'a, S> {
         alloc: Global,
         path: &[PathElement<'_>],
     ) -> Result<Option<Value<'_>>, MaxMindDbError> {
-        match outline_along(alloc, self, path) {
-            Ok(Some(outline)) => Ok(Some(outline.value)),
-            Ok(None) => Ok(None),
-            Err(error) => Err(error),
+        match self.to_record() {
+            Some(found) => outline_along(alloc, &found, path),
+            None => Ok(None),
         }
     }
 }

@@ -1,12 +1,11 @@
 //! The chosen networks of a walk, given to a sink one by one.
 ghost use Rattle.std.specs.Prelude.{◌≡◌, ◌≤◌, ◌+◌, ℕ, List, [], false, IfOk, IfErr, length};
 ghost use Rattle.std.specs.Io.KnownBytes.{Appends};
-ghost use Rattle.mmdb_format.specs.Error.{MemoryApart};
 ghost use Rattle.mmdb_query.specs.Ends.{IsOfOutput, Leaves, left_of, StopsBy};
 ghost use Rattle.mmdb_query.specs.Kept.{ChoiceFits};
 ghost use Rattle.mmdb_query.specs.Walks.{Goes};
 ghost use Rattle.mmdb_query.specs.Walks.Item.{Found};
-ghost use Rattle.mmdb_query.specs.Taking.{asks, CantBePut, Takes};
+ghost use Rattle.mmdb_query.specs.Taking.{asks, Takes};
 ghost use Rattle.mmdb_query.specs.Steps.{TakesKnown, IsPut, PutsStep, IsTried, FitsOf, FitsStill, is_memory as spec_is_memory};
 
 use crate::answer::Answer;
@@ -129,69 +128,8 @@ fn put_chosen<A: Answer, S: Sink, C: Conditions, O: Write>(
     }
 }
 
-// Gives a network to a sink once more, if it is chosen, or reports why it can't be, and says how many can't.
-#[cold]
-#[inline(never)]
-fn put_again<A: Answer, S: Sink, C: Conditions, O: Write, F: Faults>(
-    choice: &mut Choice<'_, C>,
-    sink: &mut S,
-    answer: &A,
-    out: &mut O,
-    faults: &mut F,
-) -> Result<u64, QueryError>
-    requires choice { ChoiceFits C.says (A.sections answer.now) choice.old }
-    requires sink { S.fits (A.sections answer.now) sink.old }
-    ensures put { IsPut
-        (asks C.says C.is_unread S.puts S.is_unread S.leaves choice.old.conditions.now
-        (S.form sink.old) (A.sections answer.now)) (A.had answer.now) result
-        (S.took sink.old) (S.took sink.new) (O.contents out.old) (O.contents out.new) }
-    ensures choice { ChoiceFits C.says (A.sections answer.now) choice.new }
-    ensures sink { S.fits (A.sections answer.now) sink.new }
-    ensures same { choice.new.conditions.now ≡ choice.old.conditions.now }
-    ensures form { S.form sink.new ≡ S.form sink.old }
-{
-    match put_chosen(choice, sink, answer, out) {
-        Ok(None) => Ok(0),
-        Ok(Some(error)) => report_of(sink, &Fault::Network(answer), &error, out, faults),
-        Err(error) => Err(error),
-    }
-}
-
-// Reports why a network can't be put. Where memory was out, all that is kept is dropped, and it is tried once more.
-#[cold]
-#[inline(never)]
-fn put_failed<A: Answer, S: Sink, C: Conditions, O: Write, F: Faults>(
-    choice: &mut Choice<'_, C>,
-    sink: &mut S,
-    answer: &A,
-    error: MaxMindDbError,
-    out: &mut O,
-    faults: &mut F,
-) -> Result<u64, QueryError>
-    requires unread { MemoryApart error (CantBePut
-        (asks C.says C.is_unread S.puts S.is_unread S.leaves choice.old.conditions.now
-        (S.form sink.old) (A.sections answer.now)) (A.had answer.now)) }
-    requires choice { ChoiceFits C.says (A.sections answer.now) choice.old }
-    requires sink { S.fits (A.sections answer.now) sink.old }
-    ensures put { IsPut
-        (asks C.says C.is_unread S.puts S.is_unread S.leaves choice.old.conditions.now
-        (S.form sink.old) (A.sections answer.now)) (A.had answer.now) result
-        (S.took sink.old) (S.took sink.new) (O.contents out.old) (O.contents out.new) }
-    ensures choice { ChoiceFits C.says (A.sections answer.now) choice.new }
-    ensures sink { S.fits (A.sections answer.now) sink.new }
-    ensures same { choice.new.conditions.now ≡ choice.old.conditions.now }
-    ensures form { S.form sink.new ≡ S.form sink.old }
-{
-    if !is_memory(&error) {
-        return report_of(sink, &Fault::Network(answer), &error, out, faults);
-    }
-    if drop_kept(choice, sink) {
-        return put_again(choice, sink, answer, out, faults);
-    }
-    Err(QueryError::Memory)
-}
-
-// Gives a network to a sink, if it is chosen, or reports why it can't be, and says how many can't.
+// Gives a network to a sink, if it is chosen, or reports why it can't be, and says how many can't. Where memory was out, all that
+// is kept is dropped, and it is tried once more.
 #[inline(never)]
 fn put_anew<A: Answer, S: Sink, C: Conditions, O: Write, F: Faults>(
     choice: &mut Choice<'_, C>,
@@ -213,39 +151,24 @@ fn put_anew<A: Answer, S: Sink, C: Conditions, O: Write, F: Faults>(
 {
     match put_chosen(choice, sink, answer, out) {
         Ok(None) => Ok(0),
-        Ok(Some(error)) => put_failed(choice, sink, answer, error, out, faults),
+        Ok(Some(error)) => {
+            if !is_memory(&error) {
+                return report_of(sink, &Fault::Network(answer), &error, out, faults);
+            }
+            if !drop_kept(choice, sink) {
+                return Err(QueryError::Memory);
+            }
+            match put_chosen(choice, sink, answer, out) {
+                Ok(None) => Ok(0),
+                Ok(Some(error)) => report_of(sink, &Fault::Network(answer), &error, out, faults),
+                Err(error) => Err(error),
+            }
+        }
         Err(error) => Err(error),
     }
 }
 
-// The same; at once, where that can be.
-#[inline(always)]
-fn put_answer<A: Answer, S: Sink, C: Conditions, O: Write, F: Faults>(
-    choice: &mut Choice<'_, C>,
-    sink: &mut S,
-    answer: &A,
-    out: &mut O,
-    faults: &mut F,
-) -> Result<u64, QueryError>
-    requires choice { ChoiceFits C.says (A.sections answer.now) choice.old }
-    requires sink { S.fits (A.sections answer.now) sink.old }
-    ensures put { IsPut
-        (asks C.says C.is_unread S.puts S.is_unread S.leaves choice.old.conditions.now
-        (S.form sink.old) (A.sections answer.now)) (A.had answer.now) result
-        (S.took sink.old) (S.took sink.new) (O.contents out.old) (O.contents out.new) }
-    ensures choice { ChoiceFits C.says (A.sections answer.now) choice.new }
-    ensures sink { S.fits (A.sections answer.now) sink.new }
-    ensures same { choice.new.conditions.now ≡ choice.old.conditions.now }
-    ensures form { S.form sink.new ≡ S.form sink.old }
-{
-    match put_known(choice, sink, answer, out) {
-        Ok(true) => Ok(0),
-        Ok(false) => put_anew(choice, sink, answer, out, faults),
-        Err(error) => Err(error),
-    }
-}
-
-// The same of the last item of a walk.
+// The same of the last item of a walk; at once, where that can be.
 #[inline(always)]
 fn put_item<W: Walk, S: Sink, C: Conditions, O: Write, F: Faults>(
     choice: &mut Choice<'_, C>,
@@ -272,7 +195,11 @@ fn put_item<W: Walk, S: Sink, C: Conditions, O: Write, F: Faults>(
 {
     match item {
         Ok(answer) => {
-            let put = put_answer(choice, sink, &answer, out, faults);
+            let put = match put_known(choice, sink, &answer, out) {
+                Ok(true) => Ok(0),
+                Ok(false) => put_anew(choice, sink, &answer, out, faults),
+                Err(error) => Err(error),
+            };
             walk.give_back(answer);
             put
         }

@@ -34,4 +34,5 @@ pub use rows::{Rows, export_rows};
 pub use segment::Segment;
 pub use sink::Sink;
 pub use template::Template;
+pub use values::outline_along;
 pub use walk::{One, UnreadLeaf, Walk};

@@ -52,7 +52,10 @@ pub(crate) fn value_along<'a, S: AsSlice<u8> + Drop>(
 }
 
 /// The same, but in place of a map or an array an empty one: no more of it is read than its header.
-pub(crate) fn outline_along<'a, S: AsSlice<u8> + Drop>(
+///
+/// Fails, unless out of memory, where the way, the header or a scalar can't be read.
+#[inline(always)]
+pub fn outline_along<'a, S: AsSlice<u8> + Drop>(
     alloc: Global,
     found: &Record<'a, S>,
     path: &[PathElement<'_>],

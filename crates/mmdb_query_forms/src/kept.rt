@@ -183,38 +183,8 @@ fn put_first<A: Answer>(
     Ok(false)
 }
 
-// Adds the whole record at an offset, that of the database at a place, by its texts or as it is read, and keeps it. Whether
-// there is one.
-fn put_record_anew<A: Answer>(
-    printer: Printer,
-    at: RecordPlace,
-    cache: &mut Cache<Option<Vec<u8>>>,
-    texts: &mut Vec<RecordTexts<'_>>,
-    answer: &A,
-    out: &mut Vec<u8>,
-) -> Result<bool, MaxMindDbError>
-    requires offset { offset_at (A.had answer.now).offsets at.place ≡ Some at.offset }
-    requires texts { TextsFit texts.old.items (A.sections answer.now) }
-    requires kept { AreKept printer.form [] (get_or (A.sections answer.now) at.place []) cache.old }
-    ensures shown { OnOk result (PutsRead printer.form (value_of (A.sections answer.now)
-        (A.had answer.now).offsets at.place []) out.old.items out.new.items) }
-    ensures unread { IfErr result (λ e. MemoryApart e (value_of (A.sections answer.now)
-        (A.had answer.now).offsets at.place [] ≡ None)) }
-    ensures texts { texts.new.items ≡ texts.old.items }
-    ensures kept { AreKept printer.form [] (get_or (A.sections answer.now) at.place []) cache.new }
-{
-    let start = out.len();
-    let has_value = printer
-        .form
-        .put_record(printer.alloc, at.place, texts, answer, out)?;
-    if !has_value {
-        return Ok(false);
-    }
-    keep_text(printer.alloc, at.offset, start, out.as_slice(), cache);
-    Ok(true)
-}
-
-// The same by what is kept of it, where it is kept.
+// Adds the whole record at an offset, that of the database at a place: by what is kept of it, or by its texts or as it is read, and
+// then it is kept. Whether there is one.
 fn put_record_at<A: Answer>(
     printer: Printer,
     at: RecordPlace,
@@ -239,7 +209,17 @@ fn put_record_at<A: Answer>(
             printer.form.put_none(out)?;
             Ok(false)
         }
-        None => put_record_anew(printer, at, cache, texts, answer, out),
+        None => {
+            let start = out.len();
+            let has_value = printer
+                .form
+                .put_record(printer.alloc, at.place, texts, answer, out)?;
+            if !has_value {
+                return Ok(false);
+            }
+            keep_text(printer.alloc, at.offset, start, out.as_slice(), cache);
+            Ok(true)
+        }
     }
 }
 

@@ -30,10 +30,19 @@ pub const TURNS: Tree = [(1, 2), (19, 47), (19, 47)];
 /// 0.0.0.0/2 and 64.0.0.0/2 have B1 and 5, 128.0.0.0/2 a map and 7, 192.0.0.0/2 what can't be read.
 pub const ENDING: Tree = [(1, 2), (37, 37), (25, 79)];
 
-/// A reader of a database.
+/// A reader of a database of IPv4.
 pub fn reader_of(alloc: Global, tree: &Tree) -> Result<Reader<Vec<u8>>, MaxMindDbError> {
+    reader_in(alloc, tree, b"\xA1\x04")
+}
+
+/// A reader of a database of a version of addresses, as it is encoded.
+pub fn reader_in(
+    alloc: Global,
+    tree: &Tree,
+    version: &[u8],
+) -> Result<Reader<Vec<u8>>, MaxMindDbError> {
     let nodes = nodes_24(alloc, tree)?;
-    let changes: Changes<'_> = &[(Field::NodeCount, b"\xC1\x03")];
+    let changes: Changes<'_> = &[(Field::NodeCount, b"\xC1\x03"), (Field::IpVersion, version)];
     let bytes = changed_file(alloc, nodes.as_slice(), DATA, changes)?;
     Reader::from_source(alloc, bytes)
 }

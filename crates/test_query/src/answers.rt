@@ -1,10 +1,11 @@
 //! What an answer says of itself.
 use super::databases::{BROKEN, FIRST, Tree, reader_of};
-use mmdb_query::Answer;
-use mmdb_reader::PathElement;
+use mmdb_query::{Answer, outline_along};
+use mmdb_reader::{LookupResult, PathElement};
 use mmdb_vectors::answer::shown;
 use mmdb_vectors::failures::Failures;
 use std::alloc::{AllocError, Global};
+use std::convert::AsSlice;
 use std::net::{IpAddr, Ipv4Addr};
 
 /// A database and the first byte of an address; the network, the key, the offset, whether there is a record, the value at `c`,
@@ -63,6 +64,20 @@ fn expect_answer<A: Answer>(failures: &mut Failures, alloc: Global, answer: &A, 
     failures.expect_text(row, shown(alloc, answer.read_at(alloc, 1, &[])), "None");
 }
 
+// Notes where a record says something else at a path than the answer that has it.
+fn expect_record<S: AsSlice<u8> + Drop>(
+    failures: &mut Failures,
+    alloc: Global,
+    found: &LookupResult<'_, S>,
+    row: &Row,
+) {
+    let Some(record) = found.to_record() else {
+        return;
+    };
+    let outline = outline_along(alloc, &record, &[PathElement::Key("c")]);
+    failures.expect_text(row, shown(alloc, outline), row.outline);
+}
+
 #[test]
 fn answers_of_one_database(rt: HostRuntime) -> Result<(), Failures> {
     let mut failures = Failures::new(rt.alloc());
@@ -73,7 +88,10 @@ fn answers_of_one_database(rt: HostRuntime) -> Result<(), Failures> {
             continue;
         };
         match reader.lookup(address) {
-            Ok(found) => expect_answer(&mut failures, rt.alloc(), &found, row),
+            Ok(found) => {
+                expect_answer(&mut failures, rt.alloc(), &found, row);
+                expect_record(&mut failures, rt.alloc(), &found, row);
+            }
             Err(_) => failures.expect(row, false),
         }
     }

@@ -10,5 +10,5 @@ returns-then-is_none-clause-written g c =
 pub returns-clause-told : goal.returns-clause-told
 returns-clause-told g c both h =
     on_ok_weaker c.put_settled-written.result
-    (told-finished c.args.pairs.now.layout.now c.args.pairs.now.shown both c.args.self.now.run (waiting_of c.args.self.now.joiner) (settled_of c.finish.new.self) _ _ h c.finish.ensures.all)
+    (told-finished c.args.pairs.now.layout.now c.args.pairs.now.shown both c.args.self.now.run (waiting_of c.args.self.now.joiner) (settled_of c.finish.new.self) _ _ h c.finish.ensures.all c.finish.ensures.handed)
     c.put_settled-written.ensures.written

@@ -13,6 +13,7 @@ loop-index-preserved g c =
       joiner = c.put_block.ensures.joiner ∙ kept.joiner;
       shown = c.put_block.ensures.shown ∙ kept.shown;
       layout = c.put_block.ensures.layout ∙ kept.layout;
+      kept = c.put_block.ensures.kept ∙ kept.kept;
       written = writes-step c.args.pairs.now.layout.now c.loop-index.pairs.layout.now c.args.self.now.run c.loop-index.self.run (settled_of c.args.self.now.joiner) c.settled.result.now c.loop-index.index _ _ _ _
           inside seen (ap (λ l. l.now) kept.layout) kept.run kept.written c.in_ok-put_block.ensures.written;
     }

@@ -9,5 +9,6 @@ invariant-loop-index g l = record {
   joiner : l.self.joiner ≡ l.initial.self.joiner;
   shown : l.pairs.shown ≡ l.initial.pairs.shown;
   layout : l.pairs.layout ≡ l.initial.pairs.layout;
+  kept : l.pairs.kept ≡ l.initial.pairs.kept;
   written : WritesBlocks l.initial.pairs.layout.now l.initial.self.run (take l.index (settled_of l.initial.self.joiner)) (g.O.Write.contents l.initial.out) (g.O.Write.contents l.out);
 }
