@@ -19,6 +19,13 @@ pub(crate) struct AheadAddress {
     pub(crate) number: Option<usize>,
 }
 
+/// An address of IPv4 in a row, and its number among those ahead, if it is one of them.
+#[derive(Clone, Copy)]
+pub(crate) struct ShortAddress {
+    pub(crate) address: Ipv4Addr,
+    pub(crate) number: Option<usize>,
+}
+
 /// The address that a row has, if any. One of IPv6 is kept elsewhere: it would be copied with each row, and few have one.
 #[derive(Clone, Copy)]
 pub enum RowAddress {

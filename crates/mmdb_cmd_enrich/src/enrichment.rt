@@ -11,7 +11,7 @@ ghost use Rattle.mmdb_cmd_enrich.specs.Layers.{AreKeysFor, has_record as spec_ha
 ghost use Rattle.mmdb_cmd_enrich.specs.Remembers.{Remembers};
 ghost use Rattle.mmdb_cmd_enrich.specs.Template.{is_kept as spec_is_kept};
 
-use crate::ahead::RowAddress;
+use crate::ahead::{AheadAddress, RowAddress, ShortAddress};
 use crate::ask::Ask;
 use crate::cache::{AddedCache, Keeping, KeptBy, RecordKeys};
 use crate::found::{FoundRecords, WholeRecord};
@@ -23,7 +23,7 @@ use mmdb_cache::Worth;
 use mmdb_filter::{Added, Additions, Outcome};
 use mmdb_net::IpNetwork;
 use std::alloc::{AllocError, Global};
-use std::net::{IpAddr, Ipv4Addr, Ipv6Addr};
+use std::net::{IpAddr, Ipv6Addr};
 
 /// What a template adds to rows of what databases have for their addresses.
 #[derive(Drop)]
@@ -334,29 +334,29 @@ impl<D: Ask, W: Template> Enrichment<D, W> {
     fn put_new(
         &self,
         has_comma: bool,
-        address: IpAddr,
-        number: Option<usize>,
+        asked: AheadAddress,
         texts: &mut KeptTexts,
         room: &mut D::Room,
         out: &mut Vec<u8>,
     ) -> Result<Outcome, AllocError>
         requires numbered { (addresses : List SpecIpAddr)
-            × D.knows self.now.from room.old addresses × IsNumberOf addresses number address }
-        requires has { D.has self.now.from room.old address }
+            × D.knows self.now.from room.old addresses
+            × IsNumberOf addresses asked.number asked.address }
+        requires has { D.has self.now.from room.old asked.address }
         requires fits { Remembers (W.template self.now.what) (D.databases self.now.from)
             texts.old }
         ensures added { IfOk result (λ fares. PutsForAddress (W.template self.now.what)
-            (D.databases self.now.from) has_comma address fares out.old.items out.new.items) }
+            (D.databases self.now.from) has_comma asked.address fares out.old.items out.new.items) }
         ensures fits { Remembers (W.template self.now.what) (D.databases self.now.from)
             texts.new }
         ensures knows { (addresses : List SpecIpAddr)
             → D.knows self.now.from room.old addresses
             → D.knows self.now.from room.new addresses }
     {
-        self.from.ask(room, &address, number);
+        self.from.ask(room, &asked.address, asked.number);
         match self.from.found(room) {
             Some(found) => self.put_whole(has_comma, found, texts, out),
-            None => self.put_rejected(address, texts, out),
+            None => self.put_rejected(asked.address, texts, out),
         }
     }
 
@@ -365,20 +365,19 @@ impl<D: Ask, W: Template> Enrichment<D, W> {
     fn put_new_short(
         &self,
         has_comma: bool,
-        address: Ipv4Addr,
-        number: Option<usize>,
+        short: ShortAddress,
         texts: &mut KeptTexts,
         room: &mut D::Room,
         out: &mut Vec<u8>,
     ) -> Result<Outcome, AllocError>
         requires numbered { (addresses : List SpecIpAddr)
             × D.knows self.now.from room.old addresses
-            × IsNumberOf addresses number (V4 address) }
-        requires has { D.has self.now.from room.old (V4 address) }
+            × IsNumberOf addresses short.number (V4 short.address) }
+        requires has { D.has self.now.from room.old (V4 short.address) }
         requires fits { Remembers (W.template self.now.what) (D.databases self.now.from)
             texts.old }
         ensures added { IfOk result (λ fares. PutsForAddress (W.template self.now.what)
-            (D.databases self.now.from) has_comma (V4 address) fares
+            (D.databases self.now.from) has_comma (V4 short.address) fares
             out.old.items out.new.items) }
         ensures fits { Remembers (W.template self.now.what) (D.databases self.now.from)
             texts.new }
@@ -386,7 +385,11 @@ impl<D: Ask, W: Template> Enrichment<D, W> {
             → D.knows self.now.from room.old addresses
             → D.knows self.now.from room.new addresses }
     {
-        self.put_new(has_comma, IpAddr::V4(address), number, texts, room, out)
+        let asked = AheadAddress {
+            address: IpAddr::V4(short.address),
+            number: short.number,
+        };
+        self.put_new(has_comma, asked, texts, room, out)
     }
 
     // The same of one of IPv6.
@@ -413,7 +416,11 @@ impl<D: Ask, W: Template> Enrichment<D, W> {
             → D.knows self.now.from room.old addresses
             → D.knows self.now.from room.new addresses }
     {
-        self.put_new(has_comma, IpAddr::V6(*address), None, texts, room, out)
+        let asked = AheadAddress {
+            address: IpAddr::V6(*address),
+            number: None,
+        };
+        self.put_new(has_comma, asked, texts, room, out)
     }
 
     // Adds the text that is kept of records, by their numbers, if there is one, and says how the row fares then. With the network
@@ -451,19 +458,18 @@ impl<D: Ask, W: Template> Enrichment<D, W> {
     fn put_short(
         &self,
         has_comma: bool,
-        address: Ipv4Addr,
-        number: Option<usize>,
+        short: ShortAddress,
         texts: &mut KeptTexts,
         room: &mut D::Room,
         out: &mut Vec<u8>,
     ) -> Result<Outcome, AllocError>
         requires numbered { (addresses : List SpecIpAddr)
             × D.knows self.now.from room.old addresses
-            × IsNumberOf addresses number (V4 address) }
+            × IsNumberOf addresses short.number (V4 short.address) }
         requires fits { Remembers (W.template self.now.what) (D.databases self.now.from)
             texts.old }
         ensures added { IfOk result (λ fares. PutsForAddress (W.template self.now.what)
-            (D.databases self.now.from) has_comma (V4 address) fares
+            (D.databases self.now.from) has_comma (V4 short.address) fares
             out.old.items out.new.items) }
         ensures fits { Remembers (W.template self.now.what) (D.databases self.now.from)
             texts.new }
@@ -471,10 +477,12 @@ impl<D: Ask, W: Template> Enrichment<D, W> {
             → D.knows self.now.from room.old addresses
             → D.knows self.now.from room.new addresses }
     {
-        let keys = self.from.keys(room, &IpAddr::V4(address), number)?;
+        let keys = self
+            .from
+            .keys(room, &IpAddr::V4(short.address), short.number)?;
         match self.put_kept(has_comma, keys, texts, out)? {
             Some(outcome) => Ok(outcome),
-            None => self.put_new_short(has_comma, address, number, texts, room, out),
+            None => self.put_new_short(has_comma, short, texts, room, out),
         }
     }
 
@@ -515,26 +523,28 @@ impl<D: Ask, W: Template> Enrichment<D, W> {
         place: RowPlace,
         row: RowAddress,
         long: &Ipv6Addr,
-        texts: &mut KeptTexts,
-        room: &mut D::Room,
+        memory: &mut EnrichMemory<D::Room, W::Scratch>,
         out: &mut Vec<u8>,
     ) -> Result<Outcome, AllocError>
         requires numbered { (addresses : List SpecIpAddr)
-            × D.knows self.now.from room.old addresses × IsNumbered addresses row }
+            × D.knows self.now.from memory.old.room addresses × IsNumbered addresses row }
         requires fits { Remembers (W.template self.now.what) (D.databases self.now.from)
-            texts.old }
+            memory.old.kept }
         ensures added { IfOk result (λ fares. PutsFor (W.template self.now.what)
             (D.databases self.now.from) place (address_of_row row long.now) fares
             out.old.items out.new.items) }
         ensures fits { Remembers (W.template self.now.what) (D.databases self.now.from)
-            texts.new }
+            memory.new.kept }
         ensures knows { (addresses : List SpecIpAddr)
-            → D.knows self.now.from room.old addresses
-            → D.knows self.now.from room.new addresses }
+            → D.knows self.now.from memory.old.room addresses
+            → D.knows self.now.from memory.new.room addresses }
+        ensures scratch { memory.new.scratch ≡ memory.old.scratch }
     {
+        let (texts, room) = (&mut memory.kept, &mut memory.room);
         match row {
             RowAddress::Short { address, number } => {
-                self.put_short(place.has_comma, address, number, texts, room, out)
+                let short = ShortAddress { address, number };
+                self.put_short(place.has_comma, short, texts, room, out)
             }
             RowAddress::Long => self.put_long(place.has_comma, long, texts, room, out),
             RowAddress::Nothing => self.put_unread(place, texts, out),
@@ -572,8 +582,7 @@ impl<D: Ask, W: Template> Enrichment<D, W> {
         let row = self
             .what
             .address(&mut memory.scratch, text, is_long, &place, &mut long);
-        let (texts, room) = (&mut memory.kept, &mut memory.room);
-        let outcome = self.put_row(place, row, &long, texts, room, out)?;
+        let outcome = self.put_row(place, row, &long, memory, out)?;
         Ok(Added {
             outcome,
             behind: place.behind,
