@@ -13,5 +13,5 @@ mod words;
 pub use address_text::AddressText;
 pub use addresses::read_address;
 pub use cells::whole_words;
-pub use readings::{Reading, address_in, address_of};
+pub use readings::{Reading, address_in, address_of, any_address, short_in};
 pub use rows::{address_anywhere, last_address_anywhere};

@@ -1,5 +1,6 @@
 //! What an address is looked for in a text.
 ghost use Rattle.std.specs.Prelude.{IfSome, option_map};
+ghost use Rattle.std.specs.declared.net.ip_addr.IpAddr.TheVariants.{V4};
 ghost use Rattle.mmdb_addresses.specs.declared.readings.Reading.TheVariants.{First};
 ghost use Rattle.mmdb_addresses.specs.Addresses.{Finds, IsAddressIn, ReadsAddress};
 
@@ -7,7 +8,7 @@ use crate::addresses::{dotted_front, read_address};
 use crate::bytes::ends_word;
 use crate::cells::{first_address, last_address};
 use crate::rows::{address_anywhere, last_address_anywhere};
-use std::net::IpAddr;
+use std::net::{IpAddr, Ipv4Addr};
 
 /// Where in a text an address is looked for.
 #[derive(Clone, Copy, PartialEq, Eq)]
@@ -26,19 +27,31 @@ pub enum Reading {
 
 // The address of IPv4 that is the first word of a text, or none.
 #[inline(always)]
-fn dotted_word(text: &[u8]) -> Option<IpAddr>
-    ensures { IfSome result (IsAddressIn First text.now) }
+fn dotted_word(text: &[u8]) -> Option<Ipv4Addr>
+    ensures { IfSome result (λ short. IsAddressIn First text.now (V4 short)) }
 {
     let front = dotted_front(text)?;
     if front.end < text.len() && !ends_word(text[front.end]) {
         return None;
     }
-    Some(IpAddr::V4(front.address))
+    Some(front.address)
 }
 
-// The address in a text, read as any.
+/// The address of IPv4 in a text, where it is looked for as the first word and is that as it stands. Else there may be another.
+#[inline(always)]
+pub fn short_in(reading: Reading, text: &[u8]) -> Option<Ipv4Addr>
+    ensures { IfSome result (λ short. IsAddressIn reading text.now (V4 short)) }
+{
+    match reading {
+        Reading::First => dotted_word(text),
+        _ => None,
+    }
+}
+
+/// The address in a text, read as any. Where rows mostly have one of IPv4 as it stands, nothing is held ready for this call.
+#[cold]
 #[inline(never)]
-fn any_address(reading: Reading, text: &[u8]) -> Option<IpAddr>
+pub fn any_address(reading: Reading, text: &[u8]) -> Option<IpAddr>
     ensures { Finds (IsAddressIn reading text.now) result }
 {
     match reading {
@@ -58,12 +71,10 @@ fn any_address(reading: Reading, text: &[u8]) -> Option<IpAddr>
 pub fn address_in(reading: Reading, text: &[u8]) -> Option<IpAddr>
     ensures { Finds (IsAddressIn reading text.now) result }
 {
-    if let Reading::First = reading
-        && let Some(address) = dotted_word(text)
-    {
-        return Some(address);
+    match short_in(reading, text) {
+        Some(short) => Some(IpAddr::V4(short)),
+        None => any_address(reading, text),
     }
-    any_address(reading, text)
 }
 
 /// The address in a text, where there is a text.

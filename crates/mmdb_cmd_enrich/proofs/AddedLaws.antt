@@ -12,7 +12,7 @@ use Rattle.mmdb_reader.specs.File.{Database}
 use Rattle.mmdb_filter.specs.declared.counts.Outcome.{Outcome}
 use Rattle.mmdb_filter.specs.declared.counts.Outcome.TheVariants.{Absent, Unreadable, Failed}
 use Rattle.mmdb_filter.specs.Lines.{StandsBehind}
-use Rattle.mmdb_cmd_enrich.specs.Added.{Adds, AddsAt, PutsAt, PutsFor, PutsFound, PutsFrontText, PutsLead, PutsRecords, PutsRejected, PutsUnread}
+use Rattle.mmdb_cmd_enrich.specs.Added.{Adds, AddsAt, PutsAt, PutsFor, PutsForAddress, PutsFound, PutsFrontText, PutsLead, PutsRecords, PutsRejected, PutsUnread}
 use Rattle.mmdb_cmd_enrich.specs.Layers.{CanAskAny, CanAskNone, AnyRejects, HaveAll, AreKeys, AreKeysFor, IsKey, has_record}
 use Rattle.mmdb_cmd_enrich.specs.Networks.{IsShown}
 use Rattle.mmdb_cmd_enrich.specs.Template.{Template, ReadsBy, IsFrontText, IsReadTo, IsText, IsNoneText, ReadsPlace, cells, is_kept, member, shows_network, text_at}
@@ -74,22 +74,22 @@ no_front (cells rows reading column breaks true paths) shown none = absurd (cc)
 no_front (member kind long reading path nulls name fields) shown none = refl
 
 -- the text of what was found, where no network is shown
-pub whole_alone : (template : Template) (dbs : List Database) (place : RowPlace) (shows : Option IpNetwork → Type 0) (offsets : List (Option ℕ)) (fares : Outcome) (old new : List ℕ)
-    → shows_network template ≡ false → PutsRecords template dbs place None offsets fares old new → PutsFound template dbs place shows offsets fares old new
-whole_alone template dbs place shows offsets fares old new none (text, outcome, adds, (same, put)) =
+pub whole_alone : (template : Template) (dbs : List Database) (has_comma : Bool) (shows : Option IpNetwork → Type 0) (offsets : List (Option ℕ)) (fares : Outcome) (old new : List ℕ)
+    → shows_network template ≡ false → PutsRecords template dbs has_comma None offsets fares old new → PutsFound template dbs has_comma shows offsets fares old new
+whole_alone template dbs has_comma shows offsets fares old new none (text, outcome, adds, (same, put)) =
     (None, [], text, no_of (shows_network template) (shows None) ⊤ none tt, no_front template None none, subst (AddsAt template dbs None offsets text) (sym same) adds, put)
 
 -- after the network
-pub whole_after : (template : Template) (dbs : List Database) (place : RowPlace) (shows : Option IpNetwork → Type 0) (shown : Option IpNetwork) (offsets : List (Option ℕ)) (fares : Outcome) (old middle new : List ℕ)
-    → shows_network template ≡ true → shows shown → PutsFrontText template shown old middle → PutsRecords template dbs place shown offsets fares middle new → PutsFound template dbs place shows offsets fares old new
-whole_after template dbs place shows shown offsets fares old middle new wanted is (front, ahead, first) (text, outcome, adds, (same, put)) = (
+pub whole_after : (template : Template) (dbs : List Database) (has_comma : Bool) (shows : Option IpNetwork → Type 0) (shown : Option IpNetwork) (offsets : List (Option ℕ)) (fares : Outcome) (old middle new : List ℕ)
+    → shows_network template ≡ true → shows shown → PutsFrontText template shown old middle → PutsRecords template dbs has_comma shown offsets fares middle new → PutsFound template dbs has_comma shows offsets fares old new
+whole_after template dbs has_comma shows shown offsets fares old middle new wanted is (front, ahead, first) (text, outcome, adds, (same, put)) = (
   shown,
   front,
   text,
   yes_of (shows_network template) (shows shown) ⊤ wanted is,
   ahead,
   subst (AddsAt template dbs shown offsets text) (sym same) adds,
-  put ∙ (ap (λ l. l ++ text_at place.has_comma text) first ∙ append_assoc old front (text_at place.has_comma text)),
+  put ∙ (ap (λ l. l ++ text_at has_comma text) first ∙ append_assoc old front (text_at has_comma text)),
 )
 
 match_weaker : (b : Bool) (A B : Type 0) → (A → B) → MatchBool b A ⊤ → MatchBool b B ⊤
@@ -97,12 +97,12 @@ match_weaker true A B f a = f a
 match_weaker false A B f a = tt
 
 -- what is added for an address
-pub found_added : (template : Template) (dbs : List Database) (place : RowPlace) (address : IpAddr) (shows : Option IpNetwork → Type 0) (offsets : List (Option ℕ)) (fares : Outcome) (old new : List ℕ)
+pub found_added : (template : Template) (dbs : List Database) (has_comma : Bool) (address : IpAddr) (shows : Option IpNetwork → Type 0) (offsets : List (Option ℕ)) (fares : Outcome) (old new : List ℕ)
     → CanAskAny dbs address → HaveAll dbs address offsets → ((shown : Option IpNetwork) → shows shown → IsShown dbs address (has_record offsets) shown)
-    → PutsFound template dbs place shows offsets fares old new → PutsFor template dbs place (Some address) fares old new
-found_added template dbs place address shows offsets fares old new can have is (shown, front, text, wanted, ahead, adds, put) =
+    → PutsFound template dbs has_comma shows offsets fares old new → PutsForAddress template dbs has_comma address fares old new
+found_added template dbs has_comma address shows offsets fares old new can have is (shown, front, text, wanted, ahead, adds, put) =
     let here = match_weaker (shows_network template) (shows shown) (IsShown dbs address (has_record offsets) shown) (is shown) wanted in
-    (front ++ text_at place.has_comma text, inr (can, offsets, have, (shown, front, text, here, ahead, adds, refl)), put)
+    (front ++ text_at has_comma text, inr (can, offsets, have, (shown, front, text, here, ahead, adds, refl)), put)
 
 -- where something is kept by the numbers of records, there are such records
 pub keys_met : {A : Type 0} (dbs : List Database) (address : IpAddr) (keys : RecordKeys) (kept : Option A) (it : A)
@@ -111,17 +111,17 @@ keys_met {A} dbs address keys kept it is none (inl (all, first)) = let not : ◌
 keys_met dbs address keys kept it is none (inr met) = met
 
 -- the text that is kept of records of an address
-pub kept_added : (template : Template) (dbs : List Database) (place : RowPlace) (address : IpAddr) (offsets : List (Option ℕ)) (text : List ℕ) (outcome fares : Outcome) (old new : List ℕ)
-    → shows_network template ≡ false → CanAskAny dbs address → HaveAll dbs address offsets → AddsAt template dbs None offsets text outcome → PutsAt place text outcome fares old new → PutsFor template dbs place (Some address) fares old new
-kept_added template dbs place address offsets text outcome fares old new none can have adds (same, put) =
+pub kept_added : (template : Template) (dbs : List Database) (has_comma : Bool) (address : IpAddr) (offsets : List (Option ℕ)) (text : List ℕ) (outcome fares : Outcome) (old new : List ℕ)
+    → shows_network template ≡ false → CanAskAny dbs address → HaveAll dbs address offsets → AddsAt template dbs None offsets text outcome → PutsAt has_comma text outcome fares old new → PutsForAddress template dbs has_comma address fares old new
+kept_added template dbs has_comma address offsets text outcome fares old new none can have adds (same, put) =
     let here = no_of (shows_network template) (IsShown dbs address (has_record offsets) None) ⊤ none tt in
     let at = subst (AddsAt template dbs None offsets text) (sym same) adds in
-    (text_at place.has_comma text, inr (can, offsets, have, (None, [], text, here, no_front template None none, at, refl)), put)
+    (text_at has_comma text, inr (can, offsets, have, (None, [], text, here, no_front template None none, at, refl)), put)
 
 -- that of an address that is rejected
-pub rejected_added : (template : Template) (dbs : List Database) (place : RowPlace) (address : IpAddr) (fares : Outcome) (old new : List ℕ)
-    → CanAskNone dbs address ⊎ AnyRejects dbs address → PutsRejected template old new → fares ≡ Failed → PutsFor template dbs place (Some address) fares old new
-rejected_added template dbs place address fares old new why (extra, is, put) failed = (extra, inl (why, is, failed), put)
+pub rejected_added : (template : Template) (dbs : List Database) (has_comma : Bool) (address : IpAddr) (fares : Outcome) (old new : List ℕ)
+    → CanAskNone dbs address ⊎ AnyRejects dbs address → PutsRejected template old new → fares ≡ Failed → PutsForAddress template dbs has_comma address fares old new
+rejected_added template dbs has_comma address fares old new why (extra, is, put) failed = (extra, inl (why, is, failed), put)
 
 -- that of a row without an address
 pub unread_added : (template : Template) (dbs : List Database) (place : RowPlace) (fares : Outcome) (old new : List ℕ)

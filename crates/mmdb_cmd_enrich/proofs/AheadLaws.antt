@@ -1,5 +1,5 @@
 -- Addresses of rows ahead.
-use Rattle.std.proofs.Common.{◌≡◌, ℕ, ◌+◌, ◌<◌, ◌≤◌, List, [], ◌∷◌, ◌++◌, Some, length, take, drop, get_or, set, arith, sym, ap, ◌∙◌, subst, inl, inr}
+use Rattle.std.proofs.Common.{◌≡◌, ℕ, ◌+◌, ◌<◌, ◌≤◌, List, [], ◌∷◌, ◌++◌, None, Some, length, take, drop, get_or, set, arith, sym, ap, ◌∙◌, subst, inl, inr}
 use Rattle.std.proofs.lemmas.List.{get_or-set_same, get_or-set_other, get_or-take, length-take-le}
 use Rattle.std.proofs.lemmas.Option.{slice_get_within, slice_get-get_or, get_or_from_slice_get}
 use Rattle.std.proofs.lemmas.Bool.{cases_lt}
@@ -12,7 +12,9 @@ use Rattle.mmdb_addresses.specs.declared.address_text.AddressText.{AddressText}
 use Rattle.mmdb_reader.specs.File.{Database}
 use Rattle.mmdb_reader.specs.Many.{IsFoundFor}
 use Rattle.mmdb_tree.specs.declared.group.FoundLeaf.{FoundLeaf}
-use Rattle.mmdb_cmd_enrich.specs.Ahead.{AreSpelled, AreFound, AreFoundIn}
+use Rattle.mmdb_cmd_enrich.specs.Ahead.{AreSpelled, AreFound, AreFoundIn, IsNumbered, number_of_row}
+use Rattle.mmdb_cmd_enrich.specs.declared.ahead.RowAddress.{RowAddress}
+use Rattle.mmdb_cmd_enrich.specs.declared.ahead.RowAddress.TheVariants.{Nothing, Short, Long}
 use Rattle.mmdb_cmd_enrich.specs.declared.leaves.Leaves.{Leaves}
 
 -- one more text, with the address in it
@@ -45,6 +47,13 @@ pub numbered : (addresses : List IpAddr) (count number : ℕ) (other : IpAddr) �
 numbered addresses count number other below within =
     let some : number < length (take count addresses) = omega (arith, below, length-take-le count addresses within) in
     slice_get-get_or (take count addresses) number other some ∙ ap Some (get_or-take count addresses number other below)
+
+-- an address that has no number
+pub unnumbered : (addresses : List IpAddr) (row : RowAddress) → number_of_row row ≡ None → IsNumbered addresses row
+unnumbered addresses Nothing none = tt
+unnumbered addresses (Short address None) none = tt
+unnumbered addresses (Short address (Some number)) none = absurd (cc)
+unnumbered addresses Long none = tt
 
 -- where its walk ends
 pub leaf_found : (db : Database) (addresses : List IpAddr) (leaves : List FoundLeaf) (number : ℕ) (address : IpAddr) (leaf : FoundLeaf)

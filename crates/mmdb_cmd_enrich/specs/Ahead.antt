@@ -1,7 +1,9 @@
 -- What is remembered of rows ahead: the addresses that they have, each with its text; and where their walks end.
-use Rattle.std.specs.Prelude.{◌≡◌, ℕ, ◌<◌, ◌≤◌, List, [], ◌∷◌, take, length, Option, Some, None, IfSome, ⊤, slice_index_or}
+use Rattle.std.specs.Prelude.{◌≡◌, ℕ, ◌<◌, ◌≤◌, List, [], ◌∷◌, take, length, Option, Some, None, ⊤, slice_index_or}
 use Rattle.std.specs.List.{slice_get}
 use Rattle.std.specs.declared.net.ip_addr.IpAddr.{IpAddr}
+use Rattle.std.specs.declared.net.ip_addr.IpAddr.TheVariants.{V4, V6}
+use Rattle.std.specs.declared.net.ipv6_addr.Ipv6Addr.{Ipv6Addr}
 use Rattle.mmdb_tree.specs.declared.group.FoundLeaf.{FoundLeaf}
 use Rattle.mmdb_reader.specs.File.{Database}
 use Rattle.mmdb_reader.specs.Many.{IsFoundFor}
@@ -11,6 +13,7 @@ use Rattle.mmdb_addresses.specs.declared.readings.Reading.{Reading}
 use Rattle.mmdb_addresses.specs.declared.address_text.AddressText.{AddressText}
 use Rattle.mmdb_cmd_enrich.specs.declared.ahead.Ahead.{Ahead}
 use Rattle.mmdb_cmd_enrich.specs.declared.ahead.RowAddress.{RowAddress}
+use Rattle.mmdb_cmd_enrich.specs.declared.ahead.RowAddress.TheVariants.{Nothing, Short, Long}
 use Rattle.mmdb_cmd_enrich.specs.declared.leaves.Leaves.{Leaves}
 
 -- In each of the first texts the address at its index is.
@@ -41,6 +44,20 @@ AreFoundIn dbs addresses [] = ⊤
 AreFoundIn [] addresses (leaves ∷ others) = ⊤
 AreFoundIn (db ∷ dbs) addresses (leaves ∷ others) = AreFound db addresses leaves.leaves × AreFoundIn dbs addresses others
 
+-- the address of a row, where one of IPv6 is this one
+abbrev pub address_of_row : RowAddress → Ipv6Addr → Option IpAddr
+address_of_row Nothing long = None
+address_of_row (Short address number) long = Some (V4 address)
+address_of_row Long long = Some (V6 long)
+
+-- its number among those ahead, if it has one
+abbrev pub number_of_row : RowAddress → Option ℕ
+number_of_row Nothing = None
+number_of_row (Short address number) = number
+number_of_row Long = None
+
 -- a number of an address, where there is one
 abbrev pub IsNumbered : List IpAddr → RowAddress → Type 0
-IsNumbered addresses row = IfSome row.address (IsNumberOf addresses row.number)
+IsNumbered addresses Nothing = ⊤
+IsNumbered addresses (Short address number) = IsNumberOf addresses number (V4 address)
+IsNumbered addresses Long = ⊤

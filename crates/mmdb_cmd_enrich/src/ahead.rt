@@ -1,13 +1,13 @@
 //! The addresses of the rows ahead.
-ghost use Rattle.std.specs.Prelude.{◌≡◌, ◌+◌, ◌<◌, ◌≤◌, IfSome, Some, []};
+ghost use Rattle.std.specs.Prelude.{◌≡◌, ◌+◌, ◌<◌, ◌≤◌, IfSome, None, Some, []};
 ghost use Rattle.mmdb_addresses.specs.Addresses.{ReadsAddress};
 ghost use Rattle.mmdb_addresses.specs.declared.readings.Reading.{Reading as SpecReading};
-ghost use Rattle.mmdb_cmd_enrich.specs.Ahead.{AreSpelled, IsAhead, IsNumberOf, IsNumbered, ahead_of};
+ghost use Rattle.mmdb_cmd_enrich.specs.Ahead.{AreSpelled, IsAhead, IsNumberOf, IsNumbered, address_of_row, ahead_of, number_of_row};
 
 use crate::parts::part_of;
-use mmdb_addresses::{AddressText, Reading, address_in};
+use mmdb_addresses::{AddressText, Reading, address_in, any_address, short_in};
 use mmdb_filter::{Rows, first_row};
-use std::net::{IpAddr, Ipv4Addr};
+use std::net::{IpAddr, Ipv4Addr, Ipv6Addr};
 
 /// Of how many rows addresses are remembered.
 const MOST: usize = 64;
@@ -19,18 +19,66 @@ pub(crate) struct AheadAddress {
     pub(crate) number: Option<usize>,
 }
 
-/// An address in a row, and its number among those ahead, if it is one of them.
+/// An address of IPv4 in a row, and its number among those ahead, if it is one of them.
 #[derive(Clone, Copy)]
-pub(crate) struct NumberedAddress<'r> {
-    pub(crate) address: &'r IpAddr,
+pub(crate) struct ShortAddress {
+    pub(crate) address: Ipv4Addr,
     pub(crate) number: Option<usize>,
 }
 
-/// The address that a row has, if any, and its number among those ahead, if it is one of them.
+/// The address that a row has, if any. One of IPv6 is kept elsewhere: it would be copied with each row, and few have one.
 #[derive(Clone, Copy)]
-pub struct RowAddress {
-    pub address: Option<IpAddr>,
-    pub number: Option<usize>,
+pub enum RowAddress {
+    Nothing,
+    /// One of IPv4, and its number among those ahead, if it is one of them.
+    Short {
+        address: Ipv4Addr,
+        number: Option<usize>,
+    },
+    Long,
+}
+
+/// The address that was found in a row, if any, of no number. One of IPv6 is put into `long`.
+#[inline(always)]
+pub(crate) fn row_address(found: Option<IpAddr>, long: &mut Ipv6Addr) -> RowAddress
+    ensures address { address_of_row result long.new ≡ found }
+    ensures number { number_of_row result ≡ None }
+{
+    match found {
+        Some(IpAddr::V4(address)) => RowAddress::Short {
+            address,
+            number: None,
+        },
+        Some(IpAddr::V6(address)) => {
+            *long = address;
+            RowAddress::Long
+        }
+        None => RowAddress::Nothing,
+    }
+}
+
+// The address in a text that is not one of IPv4 as it stands.
+#[inline(always)]
+fn other_address(reading: Reading, text: &[u8], long: &mut Ipv6Addr) -> RowAddress
+    ensures spelled { ReadsAddress reading (Some text.now) (address_of_row result long.new) }
+    ensures number { number_of_row result ≡ None }
+{
+    row_address(any_address(reading, text), long)
+}
+
+// The address in a text. Most are of IPv4, and are read by steps of their own.
+#[inline(always)]
+fn address_alone(reading: Reading, text: &[u8], long: &mut Ipv6Addr) -> RowAddress
+    ensures spelled { ReadsAddress reading (Some text.now) (address_of_row result long.new) }
+    ensures number { number_of_row result ≡ None }
+{
+    match short_in(reading, text) {
+        Some(address) => RowAddress::Short {
+            address,
+            number: None,
+        },
+        None => other_address(reading, text, long),
+    }
 }
 
 /// The addresses that rows ahead have, each with its text, in their order.
@@ -160,24 +208,60 @@ impl Ahead {
         })
     }
 
-    /// The address in a text, and its number if it is the next one ahead.
-    #[inline(always)]
-    pub(crate) fn read(&mut self, reading: Reading, text: &[u8], row: &mut RowAddress)
+    // The same where an address is ahead.
+    #[inline(never)]
+    fn read_next(&mut self, reading: Reading, text: &[u8], long: &mut Ipv6Addr) -> RowAddress
         requires { IsAhead reading self.old }
-        ensures spelled { ReadsAddress reading (Some text.now) row.new.address }
-        ensures number { IsNumbered (ahead_of self.old) row.new }
+        ensures spelled { ReadsAddress reading (Some text.now) (address_of_row result long.new) }
+        ensures number { IsNumbered (ahead_of self.old) result }
         ensures is { IsAhead reading self.new }
         ensures same { ahead_of self.new ≡ ahead_of self.old }
     {
-        if let Some(found) = self.next(reading, text) {
-            row.address = Some(found.address);
-            row.number = found.number;
-            return;
+        match self.next(reading, text) {
+            Some(
+                AheadAddress {
+                    address: IpAddr::V4(address),
+                    number,
+                },
+            ) => RowAddress::Short { address, number },
+            Some(
+                AheadAddress {
+                    address: IpAddr::V6(address),
+                    ..
+                },
+            ) => {
+                *long = address;
+                RowAddress::Long
+            }
+            None => address_alone(reading, text, long),
         }
-        row.number = None;
-        match address_in(reading, text) {
-            Some(address) => row.address = Some(address),
-            None => row.address = None,
+    }
+
+    // The same. It has what the call returns, so that no room for that is made where nothing is ahead.
+    #[inline(always)]
+    fn read_ahead(&mut self, reading: Reading, text: &[u8], long: &mut Ipv6Addr) -> RowAddress
+        requires { IsAhead reading self.old }
+        ensures spelled { ReadsAddress reading (Some text.now) (address_of_row result long.new) }
+        ensures number { IsNumbered (ahead_of self.old) result }
+        ensures is { IsAhead reading self.new }
+        ensures same { ahead_of self.new ≡ ahead_of self.old }
+    {
+        self.read_next(reading, text, long)
+    }
+
+    /// The address in a text, and its number if it is the next one ahead. One of IPv6 is put into `long`.
+    #[inline(always)]
+    pub(crate) fn read(&mut self, reading: Reading, text: &[u8], long: &mut Ipv6Addr) -> RowAddress
+        requires { IsAhead reading self.old }
+        ensures spelled { ReadsAddress reading (Some text.now) (address_of_row result long.new) }
+        ensures number { IsNumbered (ahead_of self.old) result }
+        ensures is { IsAhead reading self.new }
+        ensures same { ahead_of self.new ≡ ahead_of self.old }
+    {
+        if self.has_next() {
+            self.read_ahead(reading, text, long)
+        } else {
+            address_alone(reading, text, long)
         }
     }
 }

@@ -113,7 +113,7 @@ impl<'a, S: AsSlice<u8> + Drop> OneDatabase<'a, S> {
     }
 
     // The same of one of IPv6.
-    #[inline(never)]
+    #[inline(always)]
     fn key_long(&self, long: Ipv6Addr) -> Option<usize>
         ensures { IfSome result (IsKeyFor (self.now.reader.now ∷ []) (V6 long)) }
     {

@@ -1,18 +1,19 @@
 //! What is added to a row.
-ghost use Rattle.std.specs.Prelude.{◌≡◌, ◌++◌, ℕ, List, Option, IfOk, Some, true, false};
+ghost use Rattle.std.specs.Prelude.{◌≡◌, ◌++◌, ℕ, List, Option, IfOk, IfSome, None, true, false};
 ghost use Rattle.std.specs.declared.net.ip_addr.IpAddr.{IpAddr as SpecIpAddr};
+ghost use Rattle.std.specs.declared.net.ip_addr.IpAddr.TheVariants.{V4, V6};
 ghost use Rattle.mmdb_net.specs.declared.network.IpNetwork.{IpNetwork as SpecIpNetwork};
 ghost use Rattle.mmdb_filter.specs.Lines.{StandsBehind};
 ghost use Rattle.mmdb_filter.specs.declared.counts.Outcome.TheVariants.{Failed, Found, Unreadable};
-ghost use Rattle.mmdb_cmd_enrich.specs.Added.{Adds, AddsAt, PutsFor, PutsFound, PutsRecords, PutsRejected, PutsUnread};
-ghost use Rattle.mmdb_cmd_enrich.specs.Ahead.{IsNumberOf, IsNumbered};
-ghost use Rattle.mmdb_cmd_enrich.specs.Layers.{has_record as spec_has_record};
+ghost use Rattle.mmdb_cmd_enrich.specs.Added.{Adds, AddsAt, PutsFor, PutsForAddress, PutsFound, PutsRecords, PutsRejected, PutsUnread};
+ghost use Rattle.mmdb_cmd_enrich.specs.Ahead.{IsNumberOf, IsNumbered, address_of_row};
+ghost use Rattle.mmdb_cmd_enrich.specs.Layers.{AreKeysFor, has_record as spec_has_record};
 ghost use Rattle.mmdb_cmd_enrich.specs.Remembers.{Remembers};
 ghost use Rattle.mmdb_cmd_enrich.specs.Template.{is_kept as spec_is_kept};
 
-use crate::ahead::{AheadAddress, NumberedAddress, RowAddress};
+use crate::ahead::{AheadAddress, RowAddress, ShortAddress};
 use crate::ask::Ask;
-use crate::cache::{AddedCache, Keeping, KeptBy};
+use crate::cache::{AddedCache, Keeping, KeptBy, RecordKeys};
 use crate::found::{FoundRecords, WholeRecord};
 use crate::memory::{EnrichMemory, KeptTexts};
 use crate::notes::Notes;
@@ -22,7 +23,7 @@ use mmdb_cache::Worth;
 use mmdb_filter::{Added, Additions, Outcome};
 use mmdb_net::IpNetwork;
 use std::alloc::{AllocError, Global};
-use std::net::IpAddr;
+use std::net::{IpAddr, Ipv6Addr};
 
 /// What a template adds to rows of what databases have for their addresses.
 #[derive(Drop)]
@@ -115,7 +116,7 @@ impl<D: Ask, W: Template> Enrichment<D, W> {
     // records with that one, and says whether it does.
     fn put_first(
         &self,
-        place: RowPlace,
+        has_comma: bool,
         found: &D::Found,
         texts: &mut KeptTexts,
         out: &mut Vec<u8>,
@@ -124,7 +125,7 @@ impl<D: Ask, W: Template> Enrichment<D, W> {
         requires fits { Remembers (W.template self.now.what) (D.databases self.now.from)
             texts.old }
         ensures added { IfOk result (λ is_put. is_put ≡ true → (network : Option SpecIpNetwork)
-            → PutsRecords (W.template self.now.what) (D.databases self.now.from) place network
+            → PutsRecords (W.template self.now.what) (D.databases self.now.from) has_comma network
             (D.Found.offsets found.now) Found out.old.items out.new.items) }
         ensures none { IfOk result (λ is_put. is_put ≡ false → out.new.items ≡ out.old.items) }
         ensures fits { Remembers (W.template self.now.what) (D.databases self.now.from)
@@ -150,7 +151,7 @@ impl<D: Ask, W: Template> Enrichment<D, W> {
         texts
             .cache
             .keep(KeptBy::First(number), text, Outcome::Found, keeping);
-        put_at(place, text, Outcome::Found, out)?;
+        put_at(has_comma, text, Outcome::Found, out)?;
         Ok(true)
     }
 
@@ -158,7 +159,7 @@ impl<D: Ask, W: Template> Enrichment<D, W> {
     #[inline(never)]
     fn put_records(
         &self,
-        place: RowPlace,
+        has_comma: bool,
         found: &D::Found,
         network: Option<IpNetwork>,
         texts: &mut KeptTexts,
@@ -169,12 +170,12 @@ impl<D: Ask, W: Template> Enrichment<D, W> {
         requires fits { Remembers (W.template self.now.what) (D.databases self.now.from)
             texts.old }
         ensures added { IfOk result (λ fares. PutsRecords (W.template self.now.what)
-            (D.databases self.now.from) place network (D.Found.offsets found.now) fares
+            (D.databases self.now.from) has_comma network (D.Found.offsets found.now) fares
             out.old.items out.new.items) }
         ensures fits { Remembers (W.template self.now.what) (D.databases self.now.from)
             texts.new }
     {
-        let is_put = self.put_first(place, found, texts, out)?;
+        let is_put = self.put_first(has_comma, found, texts, out)?;
         if is_put {
             return Ok(Outcome::Found);
         }
@@ -184,14 +185,14 @@ impl<D: Ask, W: Template> Enrichment<D, W> {
             .put_text(self.alloc, found, network, &mut texts.text)?;
         self.keep(found, outcome, texts);
         self.note(found, outcome == Outcome::Found, &mut texts.notes);
-        put_at(place, texts.text.as_slice(), outcome, out)
+        put_at(has_comma, texts.text.as_slice(), outcome, out)
     }
 
     // Adds the text where there is no record, and keeps it.
     #[inline(never)]
     fn put_absent(
         &self,
-        place: RowPlace,
+        has_comma: bool,
         found: &D::Found,
         network: Option<IpNetwork>,
         texts: &mut KeptTexts,
@@ -202,7 +203,7 @@ impl<D: Ask, W: Template> Enrichment<D, W> {
         requires fits { Remembers (W.template self.now.what) (D.databases self.now.from)
             texts.old }
         ensures added { IfOk result (λ fares. PutsRecords (W.template self.now.what)
-            (D.databases self.now.from) place network (D.Found.offsets found.now) fares
+            (D.databases self.now.from) has_comma network (D.Found.offsets found.now) fares
             out.old.items out.new.items) }
         ensures fits { Remembers (W.template self.now.what) (D.databases self.now.from)
             texts.new }
@@ -214,13 +215,13 @@ impl<D: Ask, W: Template> Enrichment<D, W> {
             Outcome::Absent,
             Keeping::Always,
         );
-        put_text(place, texts.none.as_slice(), Outcome::Absent, out)
+        put_text(has_comma, texts.none.as_slice(), Outcome::Absent, out)
     }
 
     // Adds the text of what was found, or that where there is no record.
     fn put_answer(
         &self,
-        place: RowPlace,
+        has_comma: bool,
         found: &D::Found,
         network: Option<IpNetwork>,
         texts: &mut KeptTexts,
@@ -230,22 +231,22 @@ impl<D: Ask, W: Template> Enrichment<D, W> {
         requires fits { Remembers (W.template self.now.what) (D.databases self.now.from)
             texts.old }
         ensures added { IfOk result (λ fares. PutsRecords (W.template self.now.what)
-            (D.databases self.now.from) place network (D.Found.offsets found.now) fares
+            (D.databases self.now.from) has_comma network (D.Found.offsets found.now) fares
             out.old.items out.new.items) }
         ensures fits { Remembers (W.template self.now.what) (D.databases self.now.from)
             texts.new }
     {
         if found.has_record() {
-            self.put_records(place, found, network, texts, out)
+            self.put_records(has_comma, found, network, texts, out)
         } else {
-            self.put_absent(place, found, network, texts, out)
+            self.put_absent(has_comma, found, network, texts, out)
         }
     }
 
     // Adds the text of what was found: the one that is kept, or a new one.
     fn put_found(
         &self,
-        place: RowPlace,
+        has_comma: bool,
         found: &D::Found,
         network: Option<IpNetwork>,
         texts: &mut KeptTexts,
@@ -255,21 +256,21 @@ impl<D: Ask, W: Template> Enrichment<D, W> {
         requires fits { Remembers (W.template self.now.what) (D.databases self.now.from)
             texts.old }
         ensures added { IfOk result (λ fares. PutsRecords (W.template self.now.what)
-            (D.databases self.now.from) place network (D.Found.offsets found.now) fares
+            (D.databases self.now.from) has_comma network (D.Found.offsets found.now) fares
             out.old.items out.new.items) }
         ensures fits { Remembers (W.template self.now.what) (D.databases self.now.from)
             texts.new }
     {
         if let Some(kept) = texts.cache.kept_of(found.keys()) {
-            return put_at(place, kept.cells, kept.outcome, out);
+            return put_at(has_comma, kept.cells, kept.outcome, out);
         }
-        self.put_answer(place, found, network, texts, out)
+        self.put_answer(has_comma, found, network, texts, out)
     }
 
     // Adds the text of what was found, after the network of the address where that is shown.
     fn put_whole(
         &self,
-        place: RowPlace,
+        has_comma: bool,
         found: &D::Found,
         texts: &mut KeptTexts,
         out: &mut Vec<u8>,
@@ -278,17 +279,17 @@ impl<D: Ask, W: Template> Enrichment<D, W> {
         requires fits { Remembers (W.template self.now.what) (D.databases self.now.from)
             texts.old }
         ensures added { IfOk result (λ fares. PutsFound (W.template self.now.what)
-            (D.databases self.now.from) place (D.Found.shows found.now)
+            (D.databases self.now.from) has_comma (D.Found.shows found.now)
             (D.Found.offsets found.now) fares out.old.items out.new.items) }
         ensures fits { Remembers (W.template self.now.what) (D.databases self.now.from)
             texts.new }
     {
         if !self.what.shows_network() {
-            return self.put_answer(place, found, None, texts, out);
+            return self.put_answer(has_comma, found, None, texts, out);
         }
         let network = found.shown_network();
         self.what.put_front(self.alloc, network, out)?;
-        self.put_found(place, found, network, texts, out)
+        self.put_found(has_comma, found, network, texts, out)
     }
 
     // Adds what is added to a row without an address.
@@ -329,10 +330,10 @@ impl<D: Ask, W: Template> Enrichment<D, W> {
     }
 
     // Adds the text of an address that is not kept, and keeps it.
-    #[inline(never)]
+    #[inline(always)]
     fn put_new(
         &self,
-        place: RowPlace,
+        has_comma: bool,
         asked: AheadAddress,
         texts: &mut KeptTexts,
         room: &mut D::Room,
@@ -344,9 +345,8 @@ impl<D: Ask, W: Template> Enrichment<D, W> {
         requires has { D.has self.now.from room.old asked.address }
         requires fits { Remembers (W.template self.now.what) (D.databases self.now.from)
             texts.old }
-        ensures added { IfOk result (λ fares. PutsFor (W.template self.now.what)
-            (D.databases self.now.from) place (Some asked.address) fares
-            out.old.items out.new.items) }
+        ensures added { IfOk result (λ fares. PutsForAddress (W.template self.now.what)
+            (D.databases self.now.from) has_comma asked.address fares out.old.items out.new.items) }
         ensures fits { Remembers (W.template self.now.what) (D.databases self.now.from)
             texts.new }
         ensures knows { (addresses : List SpecIpAddr)
@@ -355,27 +355,29 @@ impl<D: Ask, W: Template> Enrichment<D, W> {
     {
         self.from.ask(room, &asked.address, asked.number);
         match self.from.found(room) {
-            Some(found) => self.put_whole(place, found, texts, out),
+            Some(found) => self.put_whole(has_comma, found, texts, out),
             None => self.put_rejected(asked.address, texts, out),
         }
     }
 
-    // Adds the text of an address: the one that is kept, or a new one. With the network none is kept whole.
-    fn put_address(
+    // The same of one of IPv4.
+    #[inline(never)]
+    fn put_new_short(
         &self,
-        place: RowPlace,
-        asked: NumberedAddress<'_>,
+        has_comma: bool,
+        short: ShortAddress,
         texts: &mut KeptTexts,
         room: &mut D::Room,
         out: &mut Vec<u8>,
     ) -> Result<Outcome, AllocError>
         requires numbered { (addresses : List SpecIpAddr)
             × D.knows self.now.from room.old addresses
-            × IsNumberOf addresses asked.number asked.address.now }
+            × IsNumberOf addresses short.number (V4 short.address) }
+        requires has { D.has self.now.from room.old (V4 short.address) }
         requires fits { Remembers (W.template self.now.what) (D.databases self.now.from)
             texts.old }
-        ensures added { IfOk result (λ fares. PutsFor (W.template self.now.what)
-            (D.databases self.now.from) place (Some asked.entry.address.now) fares
+        ensures added { IfOk result (λ fares. PutsForAddress (W.template self.now.what)
+            (D.databases self.now.from) has_comma (V4 short.address) fares
             out.old.items out.new.items) }
         ensures fits { Remembers (W.template self.now.what) (D.databases self.now.from)
             texts.new }
@@ -383,36 +385,91 @@ impl<D: Ask, W: Template> Enrichment<D, W> {
             → D.knows self.now.from room.old addresses
             → D.knows self.now.from room.new addresses }
     {
-        let keys = self.from.keys(room, asked.address, asked.number)?;
+        let asked = AheadAddress {
+            address: IpAddr::V4(short.address),
+            number: short.number,
+        };
+        self.put_new(has_comma, asked, texts, room, out)
+    }
+
+    // The same of one of IPv6.
+    #[inline(never)]
+    fn put_new_long(
+        &self,
+        has_comma: bool,
+        address: &Ipv6Addr,
+        texts: &mut KeptTexts,
+        room: &mut D::Room,
+        out: &mut Vec<u8>,
+    ) -> Result<Outcome, AllocError>
+        requires knows { (addresses : List SpecIpAddr)
+            × D.knows self.now.from room.old addresses }
+        requires has { D.has self.now.from room.old (V6 address.now) }
+        requires fits { Remembers (W.template self.now.what) (D.databases self.now.from)
+            texts.old }
+        ensures added { IfOk result (λ fares. PutsForAddress (W.template self.now.what)
+            (D.databases self.now.from) has_comma (V6 address.now) fares
+            out.old.items out.new.items) }
+        ensures fits { Remembers (W.template self.now.what) (D.databases self.now.from)
+            texts.new }
+        ensures knows { (addresses : List SpecIpAddr)
+            → D.knows self.now.from room.old addresses
+            → D.knows self.now.from room.new addresses }
+    {
+        let asked = AheadAddress {
+            address: IpAddr::V6(*address),
+            number: None,
+        };
+        self.put_new(has_comma, asked, texts, room, out)
+    }
+
+    // Adds the text that is kept of records, by their numbers, if there is one, and says how the row fares then. With the network
+    // none is kept whole.
+    #[inline(always)]
+    fn put_kept(
+        &self,
+        has_comma: bool,
+        keys: RecordKeys,
+        texts: &mut KeptTexts,
+        out: &mut Vec<u8>,
+    ) -> Result<Option<Outcome>, AllocError>
+        requires fits { Remembers (W.template self.now.what) (D.databases self.now.from)
+            texts.old }
+        ensures added { IfOk result (λ put. IfSome put (λ fares. (address : SpecIpAddr)
+            → AreKeysFor (D.databases self.now.from) address keys
+            → PutsForAddress (W.template self.now.what) (D.databases self.now.from) has_comma
+            address fares out.old.items out.new.items)) }
+        ensures none { IfOk result (λ put. put ≡ None → out.new.items ≡ out.old.items) }
+        ensures fits { Remembers (W.template self.now.what) (D.databases self.now.from)
+            texts.new }
+    {
         if !self.what.shows_network()
             && let Some(kept) = texts.cache.kept_of(keys)
         {
-            let outcome = put_at(place, kept.cells, kept.outcome, out)?;
+            let outcome = put_at(has_comma, kept.cells, kept.outcome, out)?;
             texts.cache.note_found();
-            return Ok(outcome);
+            return Ok(Some(outcome));
         }
-        let asked = AheadAddress {
-            address: *asked.address,
-            number: asked.number,
-        };
-        self.put_new(place, asked, texts, room, out)
+        Ok(None)
     }
 
-    // Adds the text of the address in a row.
-    fn put_row(
+    // Adds the text of an address of IPv4: the one that is kept, or a new one.
+    #[inline(always)]
+    fn put_short(
         &self,
-        place: RowPlace,
-        row: &RowAddress,
+        has_comma: bool,
+        short: ShortAddress,
         texts: &mut KeptTexts,
         room: &mut D::Room,
         out: &mut Vec<u8>,
     ) -> Result<Outcome, AllocError>
         requires numbered { (addresses : List SpecIpAddr)
-            × D.knows self.now.from room.old addresses × IsNumbered addresses row.now }
+            × D.knows self.now.from room.old addresses
+            × IsNumberOf addresses short.number (V4 short.address) }
         requires fits { Remembers (W.template self.now.what) (D.databases self.now.from)
             texts.old }
-        ensures added { IfOk result (λ fares. PutsFor (W.template self.now.what)
-            (D.databases self.now.from) place row.now.address fares
+        ensures added { IfOk result (λ fares. PutsForAddress (W.template self.now.what)
+            (D.databases self.now.from) has_comma (V4 short.address) fares
             out.old.items out.new.items) }
         ensures fits { Remembers (W.template self.now.what) (D.databases self.now.from)
             texts.new }
@@ -420,15 +477,77 @@ impl<D: Ask, W: Template> Enrichment<D, W> {
             → D.knows self.now.from room.old addresses
             → D.knows self.now.from room.new addresses }
     {
-        match &row.address {
-            Some(address) => {
-                let asked = NumberedAddress {
-                    address,
-                    number: row.number,
-                };
-                self.put_address(place, asked, texts, room, out)
+        let keys = self
+            .from
+            .keys(room, &IpAddr::V4(short.address), short.number)?;
+        match self.put_kept(has_comma, keys, texts, out)? {
+            Some(outcome) => Ok(outcome),
+            None => self.put_new_short(has_comma, short, texts, room, out),
+        }
+    }
+
+    // The same of one of IPv6.
+    #[inline(never)]
+    fn put_long(
+        &self,
+        has_comma: bool,
+        address: &Ipv6Addr,
+        texts: &mut KeptTexts,
+        room: &mut D::Room,
+        out: &mut Vec<u8>,
+    ) -> Result<Outcome, AllocError>
+        requires knows { (addresses : List SpecIpAddr)
+            × D.knows self.now.from room.old addresses }
+        requires fits { Remembers (W.template self.now.what) (D.databases self.now.from)
+            texts.old }
+        ensures added { IfOk result (λ fares. PutsForAddress (W.template self.now.what)
+            (D.databases self.now.from) has_comma (V6 address.now) fares
+            out.old.items out.new.items) }
+        ensures fits { Remembers (W.template self.now.what) (D.databases self.now.from)
+            texts.new }
+        ensures knows { (addresses : List SpecIpAddr)
+            → D.knows self.now.from room.old addresses
+            → D.knows self.now.from room.new addresses }
+    {
+        let keys = self.from.keys(room, &IpAddr::V6(*address), None)?;
+        match self.put_kept(has_comma, keys, texts, out)? {
+            Some(outcome) => Ok(outcome),
+            None => self.put_new_long(has_comma, address, texts, room, out),
+        }
+    }
+
+    // Adds the text of the address in a row; one of IPv6 is this one.
+    #[inline(always)]
+    fn put_row(
+        &self,
+        place: RowPlace,
+        row: RowAddress,
+        long: &Ipv6Addr,
+        memory: &mut EnrichMemory<D::Room, W::Scratch>,
+        out: &mut Vec<u8>,
+    ) -> Result<Outcome, AllocError>
+        requires numbered { (addresses : List SpecIpAddr)
+            × D.knows self.now.from memory.old.room addresses × IsNumbered addresses row }
+        requires fits { Remembers (W.template self.now.what) (D.databases self.now.from)
+            memory.old.kept }
+        ensures added { IfOk result (λ fares. PutsFor (W.template self.now.what)
+            (D.databases self.now.from) place (address_of_row row long.now) fares
+            out.old.items out.new.items) }
+        ensures fits { Remembers (W.template self.now.what) (D.databases self.now.from)
+            memory.new.kept }
+        ensures knows { (addresses : List SpecIpAddr)
+            → D.knows self.now.from memory.old.room addresses
+            → D.knows self.now.from memory.new.room addresses }
+        ensures scratch { memory.new.scratch ≡ memory.old.scratch }
+    {
+        let (texts, room) = (&mut memory.kept, &mut memory.room);
+        match row {
+            RowAddress::Short { address, number } => {
+                let short = ShortAddress { address, number };
+                self.put_short(place.has_comma, short, texts, room, out)
             }
-            None => self.put_unread(place, texts, out),
+            RowAddress::Long => self.put_long(place.has_comma, long, texts, room, out),
+            RowAddress::Nothing => self.put_unread(place, texts, out),
         }
     }
 
@@ -459,13 +578,11 @@ impl<D: Ask, W: Template> Enrichment<D, W> {
     {
         self.what
             .put_lead(text, is_long, &mut memory.kept.notes, out)?;
-        let mut row = RowAddress {
-            address: None,
-            number: None,
-        };
-        self.what
-            .address(&mut memory.scratch, text, is_long, &place, &mut row);
-        let outcome = self.put_row(place, &row, &mut memory.kept, &mut memory.room, out)?;
+        let mut long = Ipv6Addr::UNSPECIFIED;
+        let row = self
+            .what
+            .address(&mut memory.scratch, text, is_long, &place, &mut long);
+        let outcome = self.put_row(place, row, &long, memory, out)?;
         Ok(Added {
             outcome,
             behind: place.behind,

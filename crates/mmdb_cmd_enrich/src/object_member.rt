@@ -4,7 +4,7 @@ ghost use Rattle.mmdb_objects.specs.Objects.{ReadsLine};
 ghost use Rattle.mmdb_cmd_enrich.specs.Objects.{IsTooLong};
 ghost use Rattle.mmdb_cmd_enrich.specs.Working.{IsPlaceIn};
 
-use crate::ahead::RowAddress;
+use crate::ahead::{RowAddress, row_address};
 use crate::found::{FoundRecords, ReadRecords, note_field};
 use crate::members::{MemberForm, MemberKind, NamedField, null_member, put_member_text};
 use crate::notes::Notes;
@@ -16,7 +16,7 @@ use mmdb_filter::{MOST_ASKED, MOST_SEEN, Outcome};
 use mmdb_net::IpNetwork;
 use mmdb_objects::{Line, PathStep, ReadLine, read_line};
 use std::alloc::{AllocError, Global};
-use std::net::IpAddr;
+use std::net::{IpAddr, Ipv6Addr};
 
 /// Fields as the last member of each object, and before them, where it is wanted, the network of the address; or records.
 #[derive(Drop)]
@@ -157,16 +157,16 @@ impl<'f> Template for ObjectMember<'f> {
     }
 
     #[inline(always)]
+    #[tactic(auto, using(crate::proofs::AheadLaws::unnumbered))]
     fn address(
         &self,
         scratch: &mut ObjectScratch,
         _text: &[u8],
         _is_long: bool,
         _place: &RowPlace,
-        row: &mut RowAddress,
-    ) {
-        row.address = scratch.address;
-        row.number = None;
+        long: &mut Ipv6Addr,
+    ) -> RowAddress {
+        row_address(scratch.address, long)
     }
 
     #[inline(always)]
@@ -227,7 +227,7 @@ impl<'f> Template for ObjectMember<'f> {
         none: &[u8],
         out: &mut Vec<u8>,
     ) -> Result<(), AllocError> {
-        put_at(place, none, Outcome::Unreadable, out)?;
+        put_at(place.has_comma, none, Outcome::Unreadable, out)?;
         Ok(())
     }
 

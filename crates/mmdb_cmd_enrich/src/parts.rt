@@ -1,5 +1,5 @@
 //! What is read of a row.
-ghost use Rattle.std.specs.Prelude.{◌≡◌, Option, Some, IfSome, option_map, take};
+ghost use Rattle.std.specs.Prelude.{◌≡◌, Option, Some, IfSome, option_map, take, true, false};
 ghost use Rattle.std.specs.declared.net.ip_addr.IpAddr.{IpAddr as SpecIpAddr};
 ghost use Rattle.mmdb_addresses.specs.Addresses.{ReadsAddress};
 ghost use Rattle.mmdb_addresses.specs.Cells.{first_word};
@@ -57,13 +57,12 @@ fn front_read(
     rows: Rows,
     reading: Reading,
     row: &[u8],
-    goes_on: bool,
     column: usize,
     is_kept: bool,
 ) -> Option<&[u8]>
     ensures { IfSome result (λ front. (found : Option SpecIpAddr)
         → ReadsAddress reading (Some front.now) found
-        → ReadsAddress reading (cell_read rows reading column row.now goes_on) found) }
+        → ReadsAddress reading (cell_read rows reading column row.now false) found) }
 {
     let Rows::Lines { delimiter } = rows else {
         return None;
@@ -71,10 +70,18 @@ fn front_read(
     let Reading::First = reading else {
         return None;
     };
-    if column > 0 || goes_on {
+    if column > 0 {
         return None;
     }
     word_part(delimiter, is_kept, row)
+}
+
+// What is read of the cell of a column of a row that is longer than what is seen of it.
+#[inline(always)]
+fn part_of_long(rows: Rows, reading: Reading, row: &[u8], column: usize) -> Option<&[u8]>
+    ensures { option_map (λ s. s.now) result ≡ cell_read rows reading column row.now true }
+{
+    cell_of_long(rows, reading, row, column)
 }
 
 /// What is read of the cell of a column: what it holds, or of a line's first cell what has its first word, since all of the
@@ -93,11 +100,11 @@ pub(crate) fn part_of(
         → ReadsAddress reading (option_map (λ s. s.now) result) found
         → ReadsAddress reading (cell_read rows reading column row.now goes_on) found }
 {
-    if let Some(front) = front_read(rows, reading, row, goes_on, column, is_kept) {
-        return Some(front);
-    }
     if goes_on {
-        return cell_of_long(rows, reading, row, column);
+        return part_of_long(rows, reading, row, column);
+    }
+    if let Some(front) = front_read(rows, reading, row, column, is_kept) {
+        return Some(front);
     }
     cell_of(rows, row, false, column)
 }

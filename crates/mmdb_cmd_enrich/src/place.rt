@@ -36,18 +36,18 @@ fn put_comma(has_comma: bool, text: &[u8], out: &mut Vec<u8>) -> Result<(), Allo
     Ok(())
 }
 
-/// Adds a text at a place, after a comma where that is wanted. An empty text gets none.
+/// Adds a text, after a comma where that is wanted. An empty text gets none.
 #[inline(always)]
 pub(crate) fn put_at(
-    place: RowPlace,
+    has_comma: bool,
     text: &[u8],
     outcome: Outcome,
     out: &mut Vec<u8>,
 ) -> Result<Outcome, AllocError>
     ensures { IfOk result (λ fares.
-        PutsAt place text.now outcome fares out.old.items out.new.items) }
+        PutsAt has_comma text.now outcome fares out.old.items out.new.items) }
 {
-    put_comma(place.has_comma, text, out)?;
+    put_comma(has_comma, text, out)?;
     out.extend_from_slice(text)?;
     Ok(outcome)
 }
@@ -55,13 +55,13 @@ pub(crate) fn put_at(
 /// The same where it is seldom.
 #[inline(never)]
 pub(crate) fn put_text(
-    place: RowPlace,
+    has_comma: bool,
     text: &[u8],
     outcome: Outcome,
     out: &mut Vec<u8>,
 ) -> Result<Outcome, AllocError>
     ensures { IfOk result (λ fares.
-        PutsAt place text.now outcome fares out.old.items out.new.items) }
+        PutsAt has_comma text.now outcome fares out.old.items out.new.items) }
 {
-    put_at(place, text, outcome, out)
+    put_at(has_comma, text, outcome, out)
 }

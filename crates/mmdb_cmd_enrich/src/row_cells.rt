@@ -2,11 +2,11 @@
 ghost use Rattle.std.specs.Prelude.{◌≡◌, ◌++◌, None, OnOk, map};
 ghost use Rattle.mmdb_addresses.specs.Addresses.{ReadsAddress};
 ghost use Rattle.mmdb_addresses.specs.Rows.{FindsFirst, FindsLast};
-ghost use Rattle.mmdb_cmd_enrich.specs.Ahead.{IsAhead, IsNumbered, ahead_of};
+ghost use Rattle.mmdb_cmd_enrich.specs.Ahead.{IsAhead, IsNumbered, address_of_row, ahead_of, number_of_row};
 ghost use Rattle.mmdb_cmd_enrich.specs.Asked.{ReadsRow, cell_read};
 ghost use Rattle.mmdb_cmd_enrich.specs.Networks.{all_blanks};
 
-use crate::ahead::{Ahead, RowAddress};
+use crate::ahead::{Ahead, RowAddress, row_address};
 use crate::cells::{put_blanks, put_cells, put_network_cell};
 use crate::columns::delimiter_of;
 use crate::found::{FoundRecords, ReadRecords, note_field};
@@ -20,7 +20,7 @@ use mmdb_filter::{MOST_SEEN, Outcome, Rows};
 use mmdb_net::IpNetwork;
 use mmdb_reader::PathElement;
 use std::alloc::{AllocError, Global};
-use std::net::IpAddr;
+use std::net::{IpAddr, Ipv6Addr};
 
 /// Fields as columns after each row, and before them, where it is wanted, the network of the address.
 #[derive(Drop)]
@@ -40,59 +40,68 @@ pub struct RowCells<'f> {
 }
 
 // The first address anywhere in a row.
-fn address_in_row(text: &[u8], is_long: bool, row: &mut RowAddress)
-    ensures spelled { FindsFirst text.now is_long row.new.address }
-    ensures number { row.new.number ≡ None }
+#[inline(always)]
+fn address_in_row(text: &[u8], is_long: bool, long: &mut Ipv6Addr) -> RowAddress
+    ensures spelled { FindsFirst text.now is_long (address_of_row result long.new) }
+    ensures number { number_of_row result ≡ None }
 {
-    row.address = address_anywhere(text, is_long);
-    row.number = None;
+    row_address(address_anywhere(text, is_long), long)
 }
 
 // The last address anywhere in a row.
-fn last_address_in_row(text: &[u8], is_long: bool, row: &mut RowAddress)
-    ensures spelled { FindsLast text.now is_long row.new.address }
-    ensures number { row.new.number ≡ None }
+#[inline(always)]
+fn last_address_in_row(text: &[u8], is_long: bool, long: &mut Ipv6Addr) -> RowAddress
+    ensures spelled { FindsLast text.now is_long (address_of_row result long.new) }
+    ensures number { number_of_row result ≡ None }
 {
-    row.address = last_address_anywhere(text, is_long);
-    row.number = None;
+    row_address(last_address_anywhere(text, is_long), long)
 }
 
 impl<'f> RowCells<'f> {
     // The address in the cell of the column.
     #[inline(always)]
-    fn address_in_cell(&self, text: &[u8], is_long: bool, ahead: &mut Ahead, row: &mut RowAddress)
+    fn address_in_cell(
+        &self,
+        text: &[u8],
+        is_long: bool,
+        ahead: &mut Ahead,
+        long: &mut Ipv6Addr,
+    ) -> RowAddress
         requires { IsAhead self.now.reading ahead.old }
         ensures spelled { ReadsAddress self.now.reading
             (cell_read self.now.rows self.now.reading self.now.column text.now is_long)
-            row.new.address }
-        ensures number { IsNumbered (ahead_of ahead.old) row.new }
+            (address_of_row result long.new) }
+        ensures number { IsNumbered (ahead_of ahead.old) result }
         ensures is { IsAhead self.now.reading ahead.new }
         ensures same { ahead_of ahead.new ≡ ahead_of ahead.old }
     {
         let is_kept = ahead.has_next();
-        let Some(cell) = part_of(self.rows, self.reading, text, is_long, self.column, is_kept)
-        else {
-            row.address = None;
-            row.number = None;
-            return;
-        };
-        ahead.read(self.reading, cell, row);
+        match part_of(self.rows, self.reading, text, is_long, self.column, is_kept) {
+            Some(cell) => ahead.read(self.reading, cell, long),
+            None => RowAddress::Nothing,
+        }
     }
 
-    // The address in a row.
+    // The address in a row. One of IPv6 is put into `long`.
     #[inline(always)]
-    fn address_in(&self, text: &[u8], is_long: bool, ahead: &mut Ahead, row: &mut RowAddress)
+    fn address_in(
+        &self,
+        text: &[u8],
+        is_long: bool,
+        ahead: &mut Ahead,
+        long: &mut Ipv6Addr,
+    ) -> RowAddress
         requires { IsAhead self.now.reading ahead.old }
         ensures spelled { ReadsRow self.now.rows self.now.reading self.now.column text.now is_long
-            row.new.address }
-        ensures number { IsNumbered (ahead_of ahead.old) row.new }
+            (address_of_row result long.new) }
+        ensures number { IsNumbered (ahead_of ahead.old) result }
         ensures is { IsAhead self.now.reading ahead.new }
         ensures same { ahead_of ahead.new ≡ ahead_of ahead.old }
     {
         match self.reading {
-            Reading::Anywhere => address_in_row(text, is_long, row),
-            Reading::LastAnywhere => last_address_in_row(text, is_long, row),
-            _ => self.address_in_cell(text, is_long, ahead, row),
+            Reading::Anywhere => address_in_row(text, is_long, long),
+            Reading::LastAnywhere => last_address_in_row(text, is_long, long),
+            _ => self.address_in_cell(text, is_long, ahead, long),
         }
     }
 
@@ -165,9 +174,9 @@ impl<'f> Template for RowCells<'f> {
         text: &[u8],
         is_long: bool,
         _place: &RowPlace,
-        row: &mut RowAddress,
-    ) {
-        self.address_in(text, is_long, ahead, row);
+        long: &mut Ipv6Addr,
+    ) -> RowAddress {
+        self.address_in(text, is_long, ahead, long)
     }
 
     #[inline(always)]

@@ -2,7 +2,7 @@
 ghost use Rattle.std.specs.Prelude.{◌≡◌, ◌≤◌, [], ℕ, Bool, List, IfOk, OnOk, length};
 ghost use Rattle.std.specs.declared.net.ip_addr.IpAddr.{IpAddr as SpecIpAddr};
 ghost use Rattle.mmdb_cmd_enrich.specs.Added.{PutsLead, PutsFrontText, PutsRejected, PutsUnread};
-ghost use Rattle.mmdb_cmd_enrich.specs.Ahead.{IsNumbered};
+ghost use Rattle.mmdb_cmd_enrich.specs.Ahead.{IsNumbered, address_of_row};
 ghost use Rattle.mmdb_cmd_enrich.specs.declared.place.RowPlace.{RowPlace as SpecRowPlace};
 ghost use Rattle.mmdb_cmd_enrich.specs.Template.{Template as SpecTemplate, IsReadTo, ReadsPlace, IsTextOf, IsNoneText, is_kept as spec_is_kept, most_of, shows_network as spec_shows_network};
 
@@ -13,7 +13,7 @@ use crate::place::{ReadRow, RowPlace};
 use mmdb_filter::Outcome;
 use mmdb_net::IpNetwork;
 use std::alloc::{AllocError, Global};
-use std::net::IpAddr;
+use std::net::{IpAddr, Ipv6Addr};
 
 /// What is added to rows, and where the address of a row is.
 pub trait Template {
@@ -67,20 +67,20 @@ pub trait Template {
         ensures same { ahead scratch.new ≡ ahead scratch.old }
         ensures fits { fits self.now scratch.new };
 
-    /// The address of that row.
+    /// The address of that row. One of IPv6 is put into `long`.
     fn address(
         &self,
         scratch: &mut Self::Scratch,
         text: &[u8],
         is_long: bool,
         place: &RowPlace,
-        row: &mut RowAddress,
-    )
+        long: &mut Ipv6Addr,
+    ) -> RowAddress
         requires fits { fits self.now scratch.old }
         requires read { reads self.now scratch.old text.now is_long place.now }
         ensures read { ReadsPlace (template self.now) text.now is_long place.now
-            row.new.address }
-        ensures numbered { IsNumbered (ahead scratch.old) row.new }
+            (address_of_row result long.new) }
+        ensures numbered { IsNumbered (ahead scratch.old) result }
         ensures same { ahead scratch.new ≡ ahead scratch.old }
         ensures fits { fits self.now scratch.new };
 

@@ -14,7 +14,7 @@ returns-clause-added g c =
     let text = c.args.texts.now.none.items in
     let adds = absent_added template dbs offsets text c.requires.absent c.requires.fits.none c.args.network in
     IfOk-weaker c.put_text.result _ _
-    (λ fares puts. (text, Absent, adds, subst (λ (t : List ℕ). PutsAt c.args.place t Absent fares c.args.out.now.items c.put_text.new.out.items) c.as_slice.ensures.value puts))
+    (λ fares puts. (text, Absent, adds, subst (λ (t : List ℕ). PutsAt c.args.has_comma t Absent fares c.args.out.now.items c.put_text.new.out.items) c.as_slice.ensures.value puts))
     c.put_text.ensures
 
 pub returns-clause-fits : goal.returns-clause-fits

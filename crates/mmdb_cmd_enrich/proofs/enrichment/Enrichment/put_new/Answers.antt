@@ -13,5 +13,5 @@ returns-in-Some-clause-added g c =
     let offsets = g.D.Found.FoundRecords.offsets in
     let (can, of, have, is) = subst (IsAnswered g.D.Found.FoundRecords.is_of offsets shows dbs c.args.asked.address) (sym c.in-Some.ensures) c.ask.ensures.answered in
     IfOk-weaker c.put_whole.result _ _
-    (λ fares puts. found_added template dbs c.args.place c.args.asked.address (shows found) (offsets found) fares c.args.out.now.items c.put_whole.new.out.items can have is puts)
+    (λ fares puts. found_added template dbs c.args.has_comma c.args.asked.address (shows found) (offsets found) fares c.args.out.now.items c.put_whole.new.out.items can have is puts)
     c.put_whole.ensures.added

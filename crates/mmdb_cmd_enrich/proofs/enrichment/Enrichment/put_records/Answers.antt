@@ -36,7 +36,7 @@ returns-clause-added g c =
       text,
       outcome,
       inr (c.requires.there, is),
-      subst (λ (old : List ℕ). PutsAt c.args.place text outcome added old c.put_at.new.out.items) still
-          (subst (λ (t : List ℕ). PutsAt c.args.place t outcome added c.put_first.new.out.items c.put_at.new.out.items) same puts),
+      subst (λ (old : List ℕ). PutsAt c.args.has_comma text outcome added old c.put_at.new.out.items) still
+          (subst (λ (t : List ℕ). PutsAt c.args.has_comma t outcome added c.put_first.new.out.items c.put_at.new.out.items) same puts),
     ))
     c.put_at.ensures

@@ -10,7 +10,7 @@ returns-then-not-shows_network-clause-added g c =
     let found = c.args.found.now in
     let offsets = g.D.Found.FoundRecords.offsets found in
     IfOk-weaker c.put_answer.result _ _
-    (λ fares puts. whole_alone template dbs c.args.place (g.D.Found.FoundRecords.shows found) offsets fares c.args.out.now.items c.put_answer.new.out.items (sym c.if-not-shows_network.ensures) puts)
+    (λ fares puts. whole_alone template dbs c.args.has_comma (g.D.Found.FoundRecords.shows found) offsets fares c.args.out.now.items c.put_answer.new.out.items (sym c.if-not-shows_network.ensures) puts)
     c.put_answer.ensures.added
 
 pub returns-clause-added : goal.returns-clause-added
@@ -20,5 +20,5 @@ returns-clause-added g c =
     let found = c.args.found.now in
     let offsets = g.D.Found.FoundRecords.offsets found in
     IfOk-weaker c.put_found.result _ _
-    (λ fares puts. whole_after template dbs c.args.place (g.D.Found.FoundRecords.shows found) c.shown_network-network.result offsets fares c.args.out.now.items c.put_front.new.out.items c.put_found.new.out.items (sym c.if-not-shows_network.ensures) c.shown_network-network.ensures c.in_ok-put_front.ensures puts)
+    (λ fares puts. whole_after template dbs c.args.has_comma (g.D.Found.FoundRecords.shows found) c.shown_network-network.result offsets fares c.args.out.now.items c.put_front.new.out.items c.put_found.new.out.items (sym c.if-not-shows_network.ensures) c.shown_network-network.ensures c.in_ok-put_front.ensures puts)
     c.put_found.ensures.added
