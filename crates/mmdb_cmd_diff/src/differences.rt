@@ -119,7 +119,8 @@ fn record_text_at(
 // The text of a record that was read, or of no record.
 fn text_or_null(alloc: Global, value: &Option<Value<'_>>) -> Result<Vec<u8>, AllocError>
     ensures text { (s : List ℕ) (offset : Option ℕ)
-        → IsRead s offset (option_map value_tree value.now) → IfOk result (λ text. IsShown s offset text.items) }
+        → IsRead s offset (option_map value_tree value.now)
+        → IfOk result (λ text. IsShown s offset text.items) }
 {
     match value {
         Some(value) => compact(alloc, value),
@@ -255,10 +256,11 @@ fn is_shown_as<'r>(
     new: &Found<'r>,
 ) -> Result<bool, UnreadableValue>
     ensures same { (s : Sections) (at : Option ℕ)
-        → IsRead s.in_old at (option_map value_tree old.now) → section_asked new.now ≡ s.in_new → IfOk result
-        (λ is_same. is_same ≡ true → AreAlikeIn s at (offset_found new.now)) }
+        → IsRead s.in_old at (option_map value_tree old.now) → section_asked new.now ≡ s.in_new
+        → IfOk result (λ is_same. is_same ≡ true → AreAlikeIn s at (offset_found new.now)) }
     ensures failed { (s : Sections) (at : Option ℕ) → section_asked new.now ≡ s.in_new
-        → IfErr result (λ u. MemoryApart u.error (IsUnreadableOn s at (offset_found new.now) u.side)) }
+        → IfErr result (λ u. MemoryApart u.error
+        (IsUnreadableOn s at (offset_found new.now) u.side)) }
 {
     let new = record_in(alloc, Side::New, new)?;
     let is_same = if are_equal(old, &new) {
@@ -458,7 +460,8 @@ impl<'a, 'r> Pairs<'a, 'r> {
     // What two databases have for a network, where whole records are shown and both can be laid out without a tree.
     fn laid_out(&mut self, alloc: Global, answers: FoundInBoth<'_, '_>) -> Option<ShownPair>
         ensures pair { IfSome result
-            (IsShownPair self.old.shown (offset_at answers.entry.old) (offset_at answers.entry.new)) }
+            (IsShownPair self.old.shown
+            (offset_at answers.entry.old) (offset_at answers.entry.new)) }
         ensures shown { self.new.shown ≡ self.old.shown }
         ensures kept { self.new.kept ≡ self.old.kept }
         ensures layout { self.new.layout ≡ self.old.layout }
@@ -687,7 +690,8 @@ impl<'a, 'r> Pairs<'a, 'r> {
         answers: FoundInBoth<'_, '_>,
     ) -> Result<ShownPair, MaxMindDbError>
         ensures { IfOk result
-            (IsShownPair self.now.shown (offset_at answers.entry.old) (offset_at answers.entry.new)) }
+            (IsShownPair self.now.shown
+            (offset_at answers.entry.old) (offset_at answers.entry.new)) }
     {
         match self.layout {
             Layout::Records => Ok(ShownPair {
@@ -705,7 +709,8 @@ impl<'a, 'r> Pairs<'a, 'r> {
         answers: FoundInBoth<'_, '_>,
     ) -> Result<ShownPair, MaxMindDbError>
         ensures pair { IfOk result
-            (IsShownPair self.old.shown (offset_at answers.entry.old) (offset_at answers.entry.new)) }
+            (IsShownPair self.old.shown
+            (offset_at answers.entry.old) (offset_at answers.entry.new)) }
         ensures shown { self.new.shown ≡ self.old.shown }
         ensures kept { self.new.kept ≡ self.old.kept }
         ensures layout { self.new.layout ≡ self.old.layout }
@@ -725,7 +730,8 @@ impl<'a, 'r> Pairs<'a, 'r> {
     ) -> Result<ShownPair, MaxMindDbError>
         requires { IsNumberOf (offset_at answers.old) (offset_at answers.new) number }
         ensures pair { IfOk result
-            (IsShownPair self.old.shown (offset_at answers.entry.old) (offset_at answers.entry.new)) }
+            (IsShownPair self.old.shown
+            (offset_at answers.entry.old) (offset_at answers.entry.new)) }
         ensures shown { self.new.shown ≡ self.old.shown }
         ensures kept { self.new.kept ≡ self.old.kept }
         ensures layout { self.new.layout ≡ self.old.layout }
@@ -743,7 +749,8 @@ impl<'a, 'r> Pairs<'a, 'r> {
         answers: FoundInBoth<'_, '_>,
     ) -> Result<ShownPair, MaxMindDbError>
         ensures pair { IfOk result
-            (IsShownPair self.old.shown (offset_at answers.entry.old) (offset_at answers.entry.new)) }
+            (IsShownPair self.old.shown
+            (offset_at answers.entry.old) (offset_at answers.entry.new)) }
         ensures shown { self.new.shown ≡ self.old.shown }
         ensures kept { self.new.kept ≡ self.old.kept }
         ensures layout { self.new.layout ≡ self.old.layout }
@@ -765,7 +772,8 @@ impl<'a, 'r> Pairs<'a, 'r> {
         answers: FoundInBoth<'_, '_>,
     ) -> Result<ShownPair, MaxMindDbError>
         ensures pair { IfOk result
-            (IsShownPair self.old.shown (offset_at answers.entry.old) (offset_at answers.entry.new)) }
+            (IsShownPair self.old.shown
+            (offset_at answers.entry.old) (offset_at answers.entry.new)) }
         ensures shown { self.new.shown ≡ self.old.shown }
         ensures kept { self.new.kept ≡ self.old.kept }
         ensures layout { self.new.layout ≡ self.old.layout }
